@@ -1,0 +1,23 @@
+-- What is true of the definitions, from general facts to demand 3.
+pub mod General
+pub mod KindTable
+pub mod KindRanges
+pub mod Tables
+pub mod Facts
+pub mod Kept
+pub mod Moves
+pub mod Preserved
+pub mod Tests
+pub mod Agree
+pub mod Progress
+pub mod Bench
+pub mod Sums
+pub mod Tree
+pub mod Meaning
+pub mod Laid
+pub mod Bytes
+pub mod Written
+pub mod Whole
+pub mod Small
+pub mod Twelve
+pub mod Readings

@@ -1,0 +1,97 @@
+-- A program is passed exactly when it meets the rules; then its table has no twins, and its records make one typed tree.
+use Prim.Native.Nat.{ℕ, suc, _+_, _-_, _≤_, _<_}
+use native.Mathlib.Omega.{arith}
+use native.Mathlib.Decide.{decLt}
+use mathlib.Core.List.{List, []}
+use mathlib.Core.Logic.{_↔_}
+use mathlib.Core.Option.{none}
+use mathlib.Core.Path.{_≡_, sym, _∙_, ap₂}
+use lib.ListN.{length, getD}
+use Rattle.rules.specs.Lists.{pick}
+use Rattle.rules.specs.Terms.{typeOf, size}
+use Rattle.rules.specs.Types.{Table, entry, noEntry}
+use Rattle.rules.specs.Conditions.{met, Holds, same, sameEntry}
+use Rattle.rules.specs.Format.{Record, typeCount, recordCount, tableOf, recordsOf}
+use Rattle.rules.specs.Links.{firstTerm}
+use Rattle.rules.specs.Check.{entryRule, refusalOf, refusal, checkAnswer, passing, typeNo}
+use Rattle.rules.specs.Meets.{MeetsForm, Meets}
+use Rattle.rules.proofs.General.{is-true, length-listed}
+use Rattle.rules.proofs.Tables.{NoTwins, Distinct, no-twins}
+use Rattle.rules.proofs.Tests.{passes, both-pass, pass-both, holds-unless, unless-holds, holds-lowest, lowest-holds}
+use Rattle.rules.proofs.Sums.{total-zero-at}
+use Rattle.rules.proofs.Tree.{walk-typed, typed-walk, whole-size, tree-type}
+
+-- Passed exactly when the rules are met.
+form-met : (types : Table) (rs : List Record) → 0 < length rs → refusalOf types rs ≡ none → MeetsForm types rs
+unfolding refusalOf
+form-met types rs z h =
+    let (h6, h₁) = both-pass _ _ h in
+    let (h7, h₂) = both-pass _ _ h₁ in
+    let (h8, h₃) = both-pass _ _ h₂ in
+    let (h9, walk) = both-pass _ _ h₃ in
+    let f = holds-lowest _ 7 1 (length rs) h7 in
+    let c = holds-lowest _ 9 1 (length rs) h9 in
+    record { entries = holds-lowest _ 6 1 (length types) h6; fielded = f; linked = holds-lowest _ 8 1 (length rs) h8; chained = c; typed = walk-typed rs types f c (length rs) 1 [] 0 (omega arith) z (omega arith) walk }
+
+met-form : (types : Table) (rs : List Record) → 0 < length rs → MeetsForm types rs → refusalOf types rs ≡ none
+unfolding refusalOf
+met-form types rs z m =
+    pass-both (lowest-holds _ 6 1 (length types) (m .entries))
+    (pass-both (lowest-holds _ 7 1 (length rs) (m .fielded))
+    (pass-both (lowest-holds _ 8 1 (length rs) (m .linked))
+    (pass-both (lowest-holds _ 9 1 (length rs) (m .chained)) (typed-walk rs types (m .chained) (length rs) 1 [] 0 z (λ _. m .typed)))))
+
+pub types-counted : (program : List ℕ) → length (tableOf program) ≡ typeCount program
+unfolding tableOf
+types-counted program = length-listed _ 0 (typeCount program)
+
+pub records-counted : (program : List ℕ) → length (recordsOf program) ≡ recordCount program
+unfolding recordsOf
+records-counted program = length-listed _ 0 (recordCount program)
+
+pub exactly : (program : List ℕ) → refusal program ≡ none ↔ Meets program
+unfolding refusal
+exactly program =
+    let R = records-counted program in (
+      λ h.
+          let (h3, h₁) = both-pass _ _ h in
+          let (h4, h₂) = both-pass _ _ h₁ in
+          let (h5, h₃) = both-pass _ _ h₂ in
+          let c = holds-unless _ 4 0 h4 in
+          record { counts = c; exact = holds-unless _ 5 0 h5 .0; form = form-met (tableOf program) (recordsOf program) (omega (arith, c .1 .0)) h₃ },
+      λ m.
+          let c = m .counts in
+          let e = m .exact in
+          pass-both (unless-holds _ 3 0 (omega (arith, c .0), tt)) (pass-both (unless-holds _ 4 0 c) (pass-both (unless-holds _ 5 0 (e, tt)) (met-form (tableOf program) (recordsOf program) (omega (arith, c .1 .0)) (m .form)))),
+    )
+
+-- Equal types have equal numbers.
+module _ (types : Table) (good : (n : ℕ) → 1 ≤ n → n < 1 + length types → Holds (entryRule types n)) where
+  apart : (m n : ℕ) → m < n → n < length types → getD types m noEntry ≡ getD types n noEntry → ⊥
+  apart m n h k e =
+      let twin = same (entry types (suc m)) (entry types (suc n)) in
+      let z : pick {A = ℕ} (met twin) 1 0 ≡ 0 = total-zero-at (λ m. pick (sameEntry (entry types m) (entry types (suc n))) 1 0) 1 (suc n - 1) (good (suc n) (omega arith) (omega arith) .0) (suc m) (omega arith) (omega arith) in
+      omega (arith, rw (is-true (met twin) (passes twin e)) at z)
+
+  distinct : Distinct types
+  distinct m n h k e = elim (decLt m n) [
+    | yes i ↦ absurd (apart m n i k e)
+    | no i ↦ elim (decLt n m) [ yes j ↦ absurd (apart n m j h (sym e)) | no j ↦ omega arith ]
+  ]
+
+  pub unlike : NoTwins types
+  unlike = no-twins types distinct
+
+-- What a program's meeting the rules means.
+module _ (program : List ℕ) (meets : Meets program) where
+  pub root-size : size (firstTerm program) ≡ recordCount program
+  root-size = let R = records-counted program in whole-size (recordsOf program) (meets .form .chained) (meets .form .linked) (omega (arith, meets .counts .1 .0)) ∙ R
+
+answered : (program : List ℕ) → refusal program ≡ none → checkAnswer program ≡ passing (typeNo (recordsOf program) 1) (recordCount program)
+unfolding checkAnswer
+answered program h = rw (h, checkAnswer)
+
+-- What check returns for a program that meets the rules.
+pub check-answers : (program : List ℕ) → Meets program → checkAnswer program ≡ passing (typeOf (firstTerm program)) (size (firstTerm program))
+check-answers program m = answered program (exactly program .1 m)
+    ∙ ap₂ passing (sym (tree-type (recordsOf program) (length (recordsOf program)) 1)) (sym (root-size program m))

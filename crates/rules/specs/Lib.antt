@@ -1,0 +1,22 @@
+-- Document 01 as definitions, in the paper's order. Definitions only: what is true of them stands in proofs/.
+pub mod Lists
+pub mod Kinds
+pub mod Terms
+pub mod Binders
+pub mod Indices
+pub mod Types
+pub mod Conditions
+pub mod FieldUses
+pub mod Typing
+pub mod Steps
+pub mod Next
+pub mod Format
+pub mod Links
+pub mod Refusals
+pub mod Check
+pub mod Meets
+pub mod Run
+pub mod WholeRun
+pub mod BenchSheet
+pub mod Slips
+pub mod SmallInputs

@@ -1,0 +1,128 @@
+// The tables of the kinds, by the kind's number. Code asks these and never compares kind numbers itself. A number that no kind has is
+// answered as kind 1, as `kindOf` says.
+ghost use mathlib.Core.Path.{_≡_};
+ghost use Rattle.rules.specs.Kinds.{childCount, kindOf};
+ghost use Rattle.rules.specs.Binders.{bindersFirst, bindersSecond};
+ghost use Rattle.rules.specs.Conditions.{holds};
+ghost use Rattle.rules.specs.FieldUses.{uses, useNumber};
+ghost use Rattle.rules.specs.Typing.{levels, standing, firstLevel};
+ghost use Rattle.rules.specs.Steps.{plainKind, stepping};
+
+// How many children a record of this kind has.
+pub fn children(kind: u16) -> u16
+    ensures { λ r. ⌜ r ≡ childCount (kindOf kind) ⌝ }
+{
+    match kind {
+        4 => 2,
+        3 | 5..=8 => 1,
+        9..=14 => 3,
+        _ => 0,
+    }
+}
+
+// Whether a tree may be plain that has a record of this kind.
+pub fn is_plain(kind: u16) -> bool
+    ensures { λ r. ⌜ r ≡ plainKind (kindOf kind) ⌝ }
+{
+    match kind {
+        6..=14 => false,
+        _ => true,
+    }
+}
+
+// How many variables it binds over its first child.
+pub fn binders_first(kind: u16) -> u16
+    ensures { λ r. ⌜ r ≡ bindersFirst (kindOf kind) ⌝ }
+{
+    match kind {
+        3 => 1,
+        _ => 0,
+    }
+}
+
+// How many variables it binds over its second child.
+pub fn binders_second(kind: u16) -> u16
+    ensures { λ r. ⌜ r ≡ bindersSecond (kindOf kind) ⌝ }
+{
+    match kind {
+        11 => 2,
+        12..=14 => 1,
+        _ => 0,
+    }
+}
+
+// Whether it may stand at this level.
+pub fn may_stand(kind: u16, level: u16) -> bool
+    ensures { λ r. ⌜ r ≡ holds (standing level (levels (kindOf kind))) ⌝ }
+{
+    match kind {
+        8 => level == 1,
+        6..=7 | 9..=14 => level == 0,
+        _ => true,
+    }
+}
+
+// The level of its first child, where it stands at this one.
+pub fn first_level(kind: u16, level: u16) -> u16
+    ensures { λ r. ⌜ r ≡ firstLevel (kindOf kind) level ⌝ }
+{
+    match kind {
+        7 => 1,
+        8 => 0,
+        _ => level,
+    }
+}
+
+// How many of its children it steps at level 0.
+pub fn stepping_at_zero(kind: u16) -> u16
+    ensures { λ r. ⌜ r ≡ stepping 0 (kindOf kind) ⌝ }
+{
+    match kind {
+        4 => 2,
+        5..=7 | 9..=14 => 1,
+        _ => 0,
+    }
+}
+
+// How many of its children it steps at level 1.
+pub fn stepping_at_one(kind: u16) -> u16
+    ensures { λ r. ⌜ r ≡ stepping 1 (kindOf kind) ⌝ }
+{
+    match kind {
+        4 => 2,
+        3 | 5 | 8 => 1,
+        _ => 0,
+    }
+}
+
+// What it uses its field a for.
+pub fn use_of_a(kind: u16) -> u16
+    ensures { λ r. ⌜ r ≡ useNumber (uses (kindOf kind) .a) ⌝ }
+{
+    match kind {
+        2 => 1,
+        10 => 1,
+        3 | 11..=14 => 2,
+        _ => 0,
+    }
+}
+
+// What it uses its field b for.
+pub fn use_of_b(kind: u16) -> u16
+    ensures { λ r. ⌜ r ≡ useNumber (uses (kindOf kind) .b) ⌝ }
+{
+    match kind {
+        11 => 2,
+        _ => 0,
+    }
+}
+
+// What it uses its value for.
+pub fn use_of_value(kind: u16) -> u16
+    ensures { λ r. ⌜ r ≡ useNumber (uses (kindOf kind) .value) ⌝ }
+{
+    match kind {
+        2..=8 | 10..=14 => 0,
+        _ => 3,
+    }
+}
