@@ -1,0 +1,4 @@
+-- What the contracts of the crate cite.
+pub mod Overwritten
+pub mod View
+pub mod Meant
