@@ -12,14 +12,21 @@ use Rattle.rules.specs.Terms.{typeOf, size}
 use Rattle.rules.specs.Types.{Table, entry, noEntry}
 use Rattle.rules.specs.Conditions.{met, Holds, same, sameEntry}
 use Rattle.rules.specs.Format.{Record, typeCount, recordCount, tableOf, recordsOf}
-use Rattle.rules.specs.Links.{firstTerm}
-use Rattle.rules.specs.Check.{entryRule, refusalOf, refusal, checkAnswer, passing, typeNo}
+use Rattle.rules.specs.Links.{firstTerm, NoBadLink}
+use Rattle.rules.specs.Refusals.{lowest, badLink}
+use Rattle.rules.specs.Check.{entryRule, refusalOf, refusal, checkAnswer, passing, typeNo, linksRule}
 use Rattle.rules.specs.Meets.{MeetsForm, Meets}
 use Rattle.rules.proofs.General.{is-true, length-listed}
 use Rattle.rules.proofs.Tables.{NoTwins, Distinct, no-twins}
 use Rattle.rules.proofs.Tests.{passes, both-pass, pass-both, holds-unless, unless-holds, holds-lowest, lowest-holds}
 use Rattle.rules.proofs.Sums.{total-zero-at}
 use Rattle.rules.proofs.Tree.{walk-typed, typed-walk, whole-size, tree-type}
+
+-- Records that 8 passes have no bad link.
+pub no-bad-link : (rs : List Record) → lowest (linksRule rs) badLink 1 (length rs) ≡ none → NoBadLink rs
+no-bad-link rs h =
+    let l = holds-lowest (linksRule rs) badLink 1 (length rs) h in
+    record { first = λ n p q. l n p (omega arith) .0; next = λ n p q. l n p (omega arith) .1 .0 }
 
 -- Passed exactly when the rules are met.
 form-met : (types : Table) (rs : List Record) → 0 < length rs → refusalOf types rs ≡ none → MeetsForm types rs

@@ -1,7 +1,8 @@
 -- Links: the tree that the records of a program make, and how a term is written as linked records.
-use Prim.Native.Nat.{ℕ, zero, suc, _+_}
+use Prim.Native.Nat.{ℕ, zero, suc, _+_, _≤_}
 use mathlib.Core.List.{List, [], _∷_, _++_}
 use mathlib.Core.Bool.{_&&_}
+use mathlib.Core.Path.{_≡_}
 use lib.ListN.{length}
 use lib.Dec.{ltb, leb, eqb}
 use Rattle.rules.specs.Lists.{pick}
@@ -21,6 +22,11 @@ firstOf rs n = named (length rs) n (recordNo rs n .first)
 
 abbrev pub nextOf : List Record → ℕ → ℕ
 nextOf rs n = pick (eqb n 1) 0 (named (length rs) n (recordNo rs n .next))
+
+-- No link is bad: each names what it says.
+pub record NoBadLink (rs : List Record) : Type 0 where
+  pub first : (n : ℕ) → 1 ≤ n → n ≤ length rs → recordNo rs n .first ≡ firstOf rs n
+  pub next : (n : ℕ) → 1 ≤ n → n ≤ length rs → recordNo rs n .next ≡ nextOf rs n
 
 -- The term whose root has kind k and fields f, with as many of the children c, s and e as the kind has.
 abbrev pub node : Kind → Fields → Term → Term → Term → Term

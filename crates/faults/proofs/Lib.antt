@@ -1,0 +1,2 @@
+-- The laws of checks that follow one another.
+pub mod Laws

@@ -1,0 +1,2 @@
+-- What a refusal by value says.
+pub mod Tells
