@@ -1,13 +1,14 @@
 -- The laws by which code that makes checks in order, and stops at the first fault, is proved: `faulting` for search.
-use Prim.Native.Nat.{ℕ, zero, suc, _+_, _-_, _≤_, _<_}
+use Prim.Native.Nat.{ℕ, suc, _+_, _-_, _≤_, _<_}
 use native.Mathlib.Omega.{arith}
-use mathlib.Core.Bool.{Bool, true, false}
+use mathlib.Core.Bool.{Bool, true, false, not}
 use mathlib.Core.Option.{Option, none, some}
 use mathlib.Core.Path.{_≡_, refl, ap, sym, _∙_}
+use borrow.Author.Tests.{not-true, not-false}
 use Rattle.rules.specs.Conditions.{Rule, holds}
 use Rattle.rules.specs.Refusals.{Refusal, unless, _then_, lowest}
 use Rattle.faults.specs.declared.Fault.{Fault}
-use Rattle.faults.specs.Tells.{refusalBy, shown, Numbered, Tells, Scanned}
+use Rattle.faults.specs.Tells.{refusalBy, shown, Tells, Scanned}
 
 -- Nothing refused, and something.
 pub tells-none : Tells (record { number = 0; place = 0 }) none
@@ -42,6 +43,13 @@ unless-kept rule number place e = rw (sym e)
 unless-broken : (rule : Rule) (number place : ℕ) → false ≡ holds rule → unless rule number place ≡ some (refusalBy number place)
 unfolding unless
 unless-broken rule number place e = rw (sym e)
+
+-- The same where code tests `!ok`.
+pub kept-by-test : (rule : Rule) (number place : ℕ) (b : Bool) → b ≡ holds rule → not b ≡ false → unless rule number place ≡ none
+kept-by-test rule number place b e n = unless-kept rule number place (sym (not-false b n) ∙ e)
+
+pub broken-by-test : (rule : Rule) (number place : ℕ) (b : Bool) → b ≡ holds rule → not b ≡ true → unless rule number place ≡ some (refusalBy number place)
+broken-by-test rule number place b e n = unless-broken rule number place (sym (not-true b n) ∙ e)
 
 pub tells-kept : (rule : Rule) (number place : ℕ) (b : Bool) → b ≡ holds rule → b ≡ true → Tells (record { number = 0; place = 0 }) (unless rule number place)
 tells-kept rule number place b e k = rw (unless-kept rule number place (sym k ∙ e)) tells-none

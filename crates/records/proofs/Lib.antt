@@ -11,3 +11,4 @@ pub mod Overwriting
 pub mod Lists
 pub mod Reading
 pub mod Writing
+pub mod Placing

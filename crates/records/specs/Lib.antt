@@ -2,3 +2,4 @@
 pub mod Overwritten
 pub mod View
 pub mod Meant
+pub mod Places

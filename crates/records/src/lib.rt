@@ -8,6 +8,7 @@ ghost use Rattle.rules.specs.Format.{u16, u32, bytes16, bytes32, entryOf, recor
 ghost use Rattle.records.specs.Overwritten.{overwritten};
 ghost use Rattle.records.specs.View.{entriesIn, recordsIn, EntryPut, RecordPut};
 ghost use Rattle.records.specs.Meant.{entryMeant, recordMeant};
+ghost use Rattle.records.specs.Places.{Within, IsEntry, IsRecord, InChain, Follows};
 
 // A record of the program form.
 pub struct Record {
@@ -150,4 +151,32 @@ pub fn put(s: &mut [u8], i: usize, r: Record)
     ensures { λ _. ⌜ RecordPut (now (s .entry)) i (recordMeant r) (now (s .exit)) ⌝ }
 {
     put_at(s, 16 * i, r)
+}
+
+// Entry `n`, counted from 1.
+pub fn entry_no(table: &[u8], n: u16) -> Entry
+    requires { ⌜ Within (entriesIn (now table)) n ⌝ }
+    ensures { λ r. ⌜ IsEntry (entriesIn (now (table .entry))) n r ⌝ }
+{
+    get_entry(table, (n - 1) as usize)
+}
+
+// Record `n`, counted from 1.
+pub fn record_no(records: &[u8], n: u16) -> Record
+    requires { ⌜ Within (recordsIn (now records)) n ⌝ }
+    ensures { λ r. ⌜ IsRecord (recordsIn (now (records .entry))) n r ⌝ }
+{
+    get(records, (n - 1) as usize)
+}
+
+// The record that follows record `n` in its chain, or 0; 0 is followed by 0.
+pub fn next_of(records: &[u8], n: u16) -> u16
+    requires { ⌜ InChain (recordsIn (now records)) n ⌝ }
+    ensures { λ r. ⌜ Follows (recordsIn (now (records .entry))) n r ⌝ }
+{
+    if n == 0 {
+        return 0;
+    }
+    let r = record_no(records, n);
+    r.next
 }

@@ -94,7 +94,7 @@ module _ (program : List ℕ) (meets : Meets program) where
   pub root-size : size (firstTerm program) ≡ recordCount program
   root-size = let R = records-counted program in whole-size (recordsOf program) (meets .form .chained) (meets .form .linked) (omega (arith, meets .counts .1 .0)) ∙ R
 
-answered : (program : List ℕ) → refusal program ≡ none → checkAnswer program ≡ passing (typeNo (recordsOf program) 1) (recordCount program)
+pub answered : (program : List ℕ) → refusal program ≡ none → checkAnswer program ≡ passing (typeNo (recordsOf program) 1) (recordCount program)
 unfolding checkAnswer
 answered program h = rw (h, checkAnswer)
 

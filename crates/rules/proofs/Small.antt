@@ -11,4 +11,4 @@ use Rattle.rules.proofs.General.{_&_}
 
 pub small-refused : All Refused smallInputs
 unfolding listed tableOf recordsOf joined programBytes unless _then_ lowest total walked refusalOf refusal runAnswer kindOf numbered
-small-refused = refl & refl & refl & refl & refl & refl & refl & refl & refl & refl & refl & refl & refl & refl & tt
+small-refused = refl & refl & refl & refl & refl & refl & refl & refl & refl & refl & refl & refl & refl & refl & refl & refl & tt

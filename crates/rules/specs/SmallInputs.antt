@@ -1,4 +1,4 @@
--- The small inputs of document 01's table of refusals, and two more.
+-- The small inputs of document 01's table of refusals, and four more that show places and order.
 use Prim.Native.Nat.{ℕ}
 use mathlib.Core.List.{List, [], _∷_}
 use mathlib.Core.Path.{_≡_}
@@ -46,6 +46,10 @@ smallInputs =
     ∷ small (programBytes (Nat ∷ Fn 1 1 ∷ Fn 1 2 ∷ Fn 2 2 ∷ []) (rec 4 2 0 2 0 0 ∷ rec 3 4 2 4 3 0 ∷ rec 1 2 0 0 0 1 ∷ rec 1 2 0 0 0 2 ∷ [])) 12 4
     -- a record that is named twice
     ∷ small (programBytes (Nat ∷ Fn 1 1 ∷ []) (rec 4 1 0 2 0 0 ∷ rec 3 2 1 3 3 0 ∷ rec 1 1 0 0 0 7 ∷ [])) 8 3
+    -- a bad link in record 1 and a bad kind in record 2: 7 is looked at first
+    ∷ small (programBytes (Nat ∷ []) (rec 4 1 0 2 1 0 ∷ rec 15 1 0 0 0 0 ∷ [])) 7 2
+    -- an application of a number's type, whose first child is a variable with no binder: a record is judged before its children
+    ∷ small (programBytes (Nat ∷ []) (rec 4 1 0 2 0 0 ∷ rec 2 1 0 0 3 0 ∷ rec 1 1 0 0 0 5 ∷ [])) 12 1
     ∷ []
 
 abbrev pub Refused : Small → Type 0
