@@ -1,0 +1,29 @@
+-- `layout::entries_fault` meets its contract. The invariant: the scan has passed n entries. The measure is how many are left. Assumes nothing.
+use Prim.Native.Nat.{_+_, _-_}
+use borrow.Author.Needs.{needs}
+use Rattle.rules.specs.Refusals.{badEntry}
+use Rattle.rules.specs.Check.{entryRule}
+use Rattle.records.specs.View.{entriesIn}
+use Rattle.faults.specs.Tells.{Scanned}
+use Rattle.records.proofs.Placing.{placing}
+use Rattle.layout.proofs.Scanning.{scanning}
+use Rattle.layout.proofs.entries_fault.Statement.{statement}
+use Rattle.layout.proofs.entries_fault.Tie as tie
+
+abbrev Inv-loop : tie.InvT-loop
+Inv-loop table types n₀ n = Scanned (entryRule (entriesIn table)) badEntry types (n + 1)
+
+abbrev μ-loop : tie.MeasureT-loop
+μ-loop table types n₀ n = types - n
+
+pub entries-fault-spec : {M : Type 1} → statement M
+entries-fault-spec =
+    tie.close (tie.spec Inv-loop μ-loop
+    (λ c. search (scanning, placing, needs))  -- loop-holds
+    (λ c. search (scanning, placing, needs))  -- add-n
+    (λ c κs. search (scanning, placing, needs))  -- entry-ok-requires
+    (λ c. search (scanning, placing, needs))  -- returns
+    (λ c. search (scanning, placing, needs))  -- loop-less
+    (λ c. search (scanning, placing, needs))  -- loop-again
+    (λ c. search (scanning, placing, needs))  -- returns-2
+    )

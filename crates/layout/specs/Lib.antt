@@ -1,0 +1,4 @@
+-- What the contracts of the crate cite.
+pub mod Counts
+pub mod Fields
+pub mod Chains
