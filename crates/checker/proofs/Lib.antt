@@ -1,0 +1,3 @@
+-- The laws by which the checks are put together.
+pub mod Ordering
+pub mod Counts

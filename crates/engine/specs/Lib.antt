@@ -1,0 +1,2 @@
+-- What the answers of the public calls mean.
+pub mod Answers
