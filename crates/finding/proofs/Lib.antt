@@ -1,0 +1,9 @@
+-- The laws of finding.
+pub mod Contracting
+pub mod Ends
+pub mod Zooms
+pub mod Located
+pub mod Cases
+pub mod Searching
+pub mod Next
+pub mod Stored

@@ -1,0 +1,51 @@
+-- Where the next step of a term is made.
+use Prim.Native.Nat.{ℕ, _+_}
+use mathlib.Core.Path.{_≡_}
+use mathlib.Core.List.{List}
+use mathlib.Core.Bool.{Bool}
+use lib.Dec.{eqb}
+use Rattle.rules.specs.Kinds.{kindNumber}
+use Rattle.rules.specs.Lists.{pick}
+use Rattle.rules.specs.Terms.{Term, leaf, unary, binary, ternary, rootKind, size}
+use Rattle.rules.specs.Format.{Record}
+use Rattle.rules.specs.Typing.{level₁}
+use Rattle.rules.specs.Steps.{enters}
+use Rattle.terms.specs.Preorder.{At}
+use Rattle.finding.specs.declared.Found.{Found}
+use Rattle.finding.specs.declared.Found.the-variants.{Done, Redex}
+use Rattle.finding.specs.Contraction.{contracts}
+
+-- What a first search finds to rewrite, or else what the second finds.
+unfoldable pub orElse : Found → Found → Found
+orElse (Done e) y = y
+orElse (Redex p) y = Redex p
+
+-- The same, where the first search is made only if b holds.
+unfoldable pub inside : Bool → Found → Found → Found
+inside b x y = pick b (orElse x y) y
+
+-- What a first search finds to rewrite, or else the record at i where it is rewritten, or else nothing.
+unfoldable pub orHere : Found → Bool → ℕ → Found
+orHere (Done e) b i = pick b (Redex i) (Done e)
+orHere (Redex p) b i = Redex p
+
+-- The root of a tree at i, when the children that it steps are done.
+abbrev pub atRoot : ℕ → Term → ℕ → Found
+atRoot l t i = pick (contracts l (rootKind t)) (Redex i) (Done (i + size t))
+
+-- What is found in the tree t that stands at i, at level l. "At level 0, application steps its first child until that is a value, then its
+-- second; fix, lift and matches step the first child until it is a value. Quote steps its child at level 1 until plain. At level 1, function,
+-- application and fix step the first child that isn't plain; splice steps its child at level 0 until that is a value. Then:" the root.
+unfoldable pub find : ℕ → Term → ℕ → Found
+find l (leaf k f) i = atRoot l (leaf k f) i
+find l (unary k f t) i = inside (enters l k) (find (level₁ k l) t (i + 1)) (atRoot l (unary k f t) i)
+find l (binary k f t u) i = orElse (find l t (i + 1)) (orElse (find l u (i + 1 + size t)) (atRoot l (binary k f t u) i))
+find l (ternary k f t s e) i = inside (eqb l 0) (find l t (i + 1)) (atRoot l (ternary k f t s e) i)
+
+-- k is the number of the kind of the record at i.
+pub record KindAt (rs : List Record) (i k : ℕ) : Type 0 where
+  pub is : (t : Term) → At rs i t → k ≡ kindNumber (rootKind t)
+
+-- r is what is found in the tree at i, at level l.
+pub record Finds (l : ℕ) (rs : List Record) (i : ℕ) (r : Found) : Type 0 where
+  pub is : (t : Term) → At rs i t → r ≡ find l t i

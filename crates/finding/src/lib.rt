@@ -1,0 +1,106 @@
+// Where the next step of a term is made: the finders of level 0 and of level 1.
+ghost use mathlib.Core.Path.{_≡_};
+ghost use Rattle.rules.specs.Kinds.{kindOf};
+ghost use Rattle.records.specs.View.{recordsIn};
+ghost use Rattle.terms.specs.Preorder.{HasTree};
+ghost use Rattle.finding.specs.Contraction.{contracts};
+ghost use Rattle.finding.specs.Finding.{orHere, KindAt, Finds};
+
+// What a search of a tree finds: nothing to step, and the place after the tree; or the place of the record that the rules rewrite.
+pub enum Found {
+    Done(usize),
+    Redex(usize),
+}
+
+// Whether a record of this kind is rewritten at level 0, once the children that it steps are done.
+fn contracts_at_zero(kind: u16) -> bool
+    ensures { λ r. ⌜ r ≡ contracts 0 (kindOf kind) ⌝ }
+{
+    match kind {
+        4..=6 | 9..=14 => true,
+        _ => false,
+    }
+}
+
+// The same at level 1.
+fn contracts_at_one(kind: u16) -> bool
+    ensures { λ r. ⌜ r ≡ contracts 1 (kindOf kind) ⌝ }
+{
+    match kind {
+        8 => true,
+        _ => false,
+    }
+}
+
+// The kind of the record at `i`.
+fn kind_at(w: &[u8], i: usize) -> u16
+    requires { ⌜ HasTree (recordsIn (now w)) i ⌝ }
+    ensures { λ r. ⌜ KindAt (recordsIn (now (w .entry))) i r ⌝ }
+{
+    let r = records::get(w, i);
+    r.kind
+}
+
+// What was found inside a tree, or where that is nothing and the record at `i` is rewritten, that record.
+fn or_here(inside: Found, rewritten: bool, i: usize) -> Found
+    ensures { λ r. ⌜ r ≡ orHere inside rewritten i ⌝ }
+{
+    match inside {
+        Found::Redex(p) => Found::Redex(p),
+        Found::Done(e) => {
+            if rewritten {
+                Found::Redex(i)
+            } else {
+                Found::Done(e)
+            }
+        }
+    }
+}
+
+// What is found in the tree at `i`, at level 0. A quote's child is searched at level 1.
+pub fn find0(w: &[u8], i: usize) -> Found
+    requires { ⌜ HasTree (recordsIn (now w)) i ⌝ }
+    ensures { λ r. ⌜ Finds 0 (recordsIn (now (w .entry))) i r ⌝ }
+{
+    let kind = kind_at(w, i);
+    let stepped = rules::stepping_at_zero(kind);
+    if stepped == 0 {
+        return Found::Done(terms::skip(w, i));
+    }
+    let rewritten = contracts_at_zero(kind);
+    if rules::first_level(kind, 0) == 1 {
+        return or_here(find1(w, i + 1), rewritten, i);
+    }
+    let first = find0(w, i + 1);
+    if stepped == 1 {
+        return or_here(first, rewritten, i);
+    }
+    match first {
+        Found::Redex(p) => Found::Redex(p),
+        Found::Done(e) => or_here(find0(w, e), rewritten, i),
+    }
+}
+
+// The same at level 1. A splice's child is searched at level 0.
+pub fn find1(w: &[u8], i: usize) -> Found
+    requires { ⌜ HasTree (recordsIn (now w)) i ⌝ }
+    ensures { λ r. ⌜ Finds 1 (recordsIn (now (w .entry))) i r ⌝ }
+{
+    let kind = kind_at(w, i);
+    let stepped = rules::stepping_at_one(kind);
+    if stepped == 0 {
+        return Found::Done(terms::skip(w, i));
+    }
+    let rewritten = contracts_at_one(kind);
+    if rules::first_level(kind, 1) == 0 {
+        return or_here(find0(w, i + 1), rewritten, i);
+    }
+    let first = find1(w, i + 1);
+    if stepped == 1 {
+        return or_here(first, rewritten, i);
+    }
+    match first {
+        Found::Redex(p) => Found::Redex(p),
+        Found::Done(e) => or_here(find1(w, e), rewritten, i),
+    }
+}
