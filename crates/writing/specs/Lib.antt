@@ -1,0 +1,4 @@
+-- What the contracts of the crate cite.
+pub mod Slots
+pub mod Tree
+pub mod Program
