@@ -14,7 +14,6 @@ use Rattle.rules.specs.Steps.{value, Step, Steps, still, more}
 use Rattle.rules.specs.Next.{next}
 use Rattle.rules.specs.Format.{tableOf}
 use Rattle.rules.specs.Links.{firstTerm}
-use Rattle.rules.specs.Check.{refusal}
 use Rattle.rules.specs.Meets.{Meets}
 use Rattle.rules.specs.Run.{Ending, valued, spent, full, Outcome, ended, oneMore, run, outcome, runRefusal, runAnswer, runOutput}
 use Rattle.rules.specs.WholeRun.{Passed, Overfull, Ends, EachTo, Makes, WholeRun, Demand3}
@@ -26,7 +25,7 @@ use Rattle.rules.proofs.Agree.{agree, deterministic, rests}
 use Rattle.rules.proofs.Progress.{goes}
 use Rattle.rules.proofs.Meaning.{exactly, unlike, root-size}
 use Rattle.rules.proofs.Laid.{length-laid}
-use Rattle.rules.proofs.Written.{GoodTable, back, read-back, term-passed, passed-table}
+use Rattle.rules.proofs.Written.{back, read-back, term-passed, passed-table}
 
 module _ (types : Table) where
   each-first : {t : Term} (P : Term → Type 0) → P t → EachTo types t 0 P
@@ -96,40 +95,42 @@ module _ (types : Table) where
         (λ l. let (h′, e′) = preserved types unlike d [] h in
         goes-on h b d e′ (whole fuel u h′ (nltb→le 2048 (size u) l)))))
 
--- Demand 3: every accepted run, whatever the buffers hold.
-module _ (program : List ℕ) (fuel : ℕ) (out : List ℕ) (workLength : ℕ) (accepted : runRefusal program (length out) workLength ≡ none) where
-  pub program-passed : refusal program ≡ none
-  program-passed = both-pass _ _ (both-pass _ _ accepted .1) .1
-
-  m : Meets program
-  m = exactly program .0 program-passed
-
+-- The run of a program that meets the rules.
+module _ (program : List ℕ) (m : Meets program) (fuel : ℕ) where
   no-twins : NoTwins (tableOf program)
   no-twins = unlike (tableOf program) (m .form .entries)
 
-  table : GoodTable (tableOf program)
-  table = passed-table program m
-
   pub program-run : WholeRun (tableOf program) (firstTerm program) fuel (outcome program fuel)
-  program-run = whole (tableOf program) no-twins (λ t. term-passed (tableOf program) t table)
+  program-run = whole (tableOf program) no-twins (λ t. term-passed (tableOf program) t (passed-table program m))
       fuel (firstTerm program) (m .form .typed) (omega (arith, root-size program m, m .counts .1 .0))
 
   last-typed : Typed (tableOf program) [] 0 (outcome program fuel .last) × (typeOf (outcome program fuel .last) ≡ typeOf (firstTerm program))
   last-typed = run-preserved (tableOf program) no-twins (program-run .makes .made) [] (m .form .typed)
 
+  pub last-type : typeOf (outcome program fuel .last) ≡ typeOf (firstTerm program)
+  last-type = last-typed .1
+
   last-small : size (outcome program fuel .last) ≤ 2048
   last-small = program-run .makes .small (outcome program fuel .steps) (outcome program fuel .last) (omega arith) (program-run .makes .made)
+
+-- Demand 3: every accepted run, whatever the buffers hold.
+module _ (program : List ℕ) (fuel : ℕ) (out : List ℕ) (workLength : ℕ) (accepted : runRefusal program (length out) workLength ≡ none) where
+  m : Meets program
+  m = exactly program .0 (both-pass _ _ (both-pass _ _ accepted .1) .1)
 
   pub demand-3 : Demand3 program fuel out workLength
   unfolding runAnswer runOutput
   demand-3 =
-      let b = back (tableOf program) (outcome program fuel .last) table (last-typed .0) last-small in
+      let table = passed-table program m in
+      let typed = last-typed program m fuel .0 in
+      let small = last-small program m fuel in
+      let b = back (tableOf program) (outcome program fuel .last) table typed small in
       let (o, _) = holds-unless _ 1 0 (both-pass _ _ accepted .0) in
       record {
         outcome = outcome program fuel;
-        whole = program-run;
-        answers = rw (accepted, runAnswer) (rw (last-typed .1));
+        whole = program-run program m fuel;
+        answers = rw (accepted, runAnswer) (rw (last-type program m fuel));
         writes = rw (accepted, runOutput);
-        fits = omega (arith, b .length-back, length-laid 1 0 (outcome program fuel .last), last-small, table .few);
-        again = (b .table-back, read-back (tableOf program) (outcome program fuel .last) table (last-typed .0) last-small);
+        fits = omega (arith, b .length-back, length-laid 1 0 (outcome program fuel .last), small, table .few);
+        again = (b .table-back, read-back (tableOf program) (outcome program fuel .last) table typed small);
       }
