@@ -1,0 +1,116 @@
+-- Writing what is made: a law for each thing that the code asks. `making` for search.
+use Prim.Native.Nat.{ℕ, _+_, _^_, _<_}
+use native.Mathlib.Omega.{arith}
+use mathlib.Core.Path.{_≡_, ap, _∙_}
+use mathlib.Core.Logic.{⊎-elim, inl, inr}
+use mathlib.Core.List.{List}
+use lib.ListN.{length}
+use mir.Syntax.{w64}
+use mir.Val.{Fits}
+use Rattle.rules.specs.Terms.{Term, size}
+use Rattle.rules.specs.Indices.{changed, replacing, replaced}
+use Rattle.rules.specs.Format.{Record}
+use Rattle.records.specs.View.{recordsIn}
+use Rattle.records.proofs.Records.{records-length}
+use Rattle.terms.specs.Preorder.{preorder, HasTree, puts, part}
+use Rattle.terms.specs.Moves.{CanMove, Moved}
+use Rattle.terms.proofs.Trees.{at-within, length-preorder}
+use Rattle.terms.proofs.Puts.{at-part}
+use Rattle.replacing.specs.declared.Ends.{Ends}
+use Rattle.replacing.specs.Reading.{Reads, Free}
+use Rattle.replacing.specs.Arguments.{Given, Putting, CanPut, Puts}
+use Rattle.replacing.specs.Copying.{replaces, CanCopy, Copies}
+use Rattle.replacing.proofs.Callers.{can-replace, was-replaced}
+use Rattle.planning.specs.declared.Plan.{Plan}
+use Rattle.steps.specs.Making.{Rewriting, Room, CanMake, MadeThere, Makes}
+use Rattle.steps.specs.MakingParts.{IsSize, CanCopyTree, CopiesTree}
+use Rattle.steps.proofs.RaisedZero.{raised-zero}
+use Rattle.steps.proofs.MakingArea.{area, area-fits, inside-reads, argument-describes, arguments-given, room-free}
+use Rattle.steps.proofs.MakingForms.{Body, by-itself, by-replacing, by-anew}
+
+-- A tree that is copied as it is.
+module _ (rs : List Record) (src dst : ℕ) where
+  pub copied-there : CanCopyTree rs src dst → HasTree rs src
+  copied-there v = record { tree = v .tree; there = v .there }
+
+  module _ (n : ℕ) (s : IsSize rs src n) where
+    pub tree-moves : CanCopyTree rs src dst → CanMove rs src dst n
+    tree-moves v =
+        let e = s .is (v .tree) (v .there) in
+        rw e (record { from = at-within rs src (v .tree) (v .there); to = v .room; apart = v .apart })
+
+    pub tree-copied : (rs′ : List Record) → Moved rs rs′ src dst n → CopiesTree rs rs′ src dst (dst + n)
+    tree-copied rs′ m = record {
+      does = λ t h.
+          let e = s .is t h in
+          record { records = m .is ∙ ap (λ k. puts rs dst (part rs src k)) e ∙ ap (puts rs dst) (at-part rs src t h); end = ap (λ k. dst + k) e };
+    }
+
+pub end-fits : (s : List ℕ) (src dst : ℕ) → CanCopyTree (recordsIn s) src dst → (n : ℕ) → IsSize (recordsIn s) src n → length s < 2 ^ 64 → Fits w64 (dst + n)
+end-fits s src dst v n k l = omega (arith, k .is (v .tree) (v .there), v .room, records-length s)
+
+module _ (rs : List Record) (p : ℕ) (q : Plan) (dst : ℕ) where
+  -- The tree as it is.
+  pub itself-copies : CanMake rs p q dst → q .form ≡ 0 → CanCopyTree rs (q .at) dst
+  itself-copies v e =
+      let i = by-itself rs p q (v .contractum) (v .rewriting .planned .made) e in
+      record {
+        tree = v .contractum;
+        there = i .there;
+        room = v .room .room;
+        apart = ⊎-elim (λ l. inl (omega (arith, i .upto))) (λ l. inr (omega (arith, i .from))) (v .room .apart);
+      }
+
+  pub itself-made : q .form ≡ 0 → (rs′ : List Record) (e : ℕ) → CopiesTree rs rs′ (q .at) dst e → Makes rs rs′ p q dst e
+  itself-made f rs′ e k = record { does = λ r r′ h o. k .does r′ (by-itself rs p q r′ (h .planned .made) f .there) }
+
+  -- A body with its variables replaced.
+  module _ (r r′ : Term) (h : Rewriting rs p q r r′) (o : Room rs p q dst r′) (n : ℕ) (b : Body rs p q r′ n) where
+    body-reads : Reads (area p q) rs (q .at) 0 (b .body)
+    body-reads = inside-reads rs p q r r′ h (q .at) (b .body) (b .inside)
+
+    body-given : Given (area p q) rs (q .m) (q .first) (q .second) (b .terms)
+    body-given = arguments-given rs p q r r′ h (b .terms) (b .arguments)
+
+    body-free : Free (area p q) rs dst (size (changed (replacing (b .terms)) 0 (b .body)))
+    unfolding replaced
+    body-free = rw (ap size (b .is)) at (room-free rs p q r r′ h dst o)
+
+    can-write : CanCopy (replaces (q .m) (q .first) (q .second)) rs (q .at) dst 0
+    can-write = can-replace (area p q) rs (q .at) dst 0 (b .body) body-reads (q .m) (q .first) (q .second) (b .terms) body-given (area-fits p q) body-free
+
+    was-written : (rs′ : List Record) (ends : Ends) → Copies (replaces (q .m) (q .first) (q .second)) rs rs′ (q .at) dst 0 ends → MadeThere rs rs′ dst (ends .dst) r′
+    unfolding replaced
+    was-written rs′ ends k =
+        let z = was-replaced (area p q) rs (q .at) dst 0 (b .body) body-reads (q .m) (q .first) (q .second) (b .terms) body-given (area-fits p q) body-free rs′ ends k in
+        rw (b .is) (record { records = z .records; end = z .after-written })
+
+  module _ (f : q .form ≡ 1) where
+    pub body-copies : CanMake rs p q dst → CanCopy (replaces (q .m) (q .first) (q .second)) rs (q .at) dst 0
+    body-copies v = can-write (v .redex) (v .contractum) (v .rewriting) (v .room) _ (by-replacing rs p q (v .contractum) (v .rewriting .planned .made) f)
+
+    pub body-made : (rs′ : List Record) (ends : Ends) → Copies (replaces (q .m) (q .first) (q .second)) rs rs′ (q .at) dst 0 ends → Makes rs rs′ p q dst (ends .dst)
+    body-made rs′ ends k = record { does = λ r r′ h o. was-written r r′ h o _ (by-replacing rs p q r′ (h .planned .made) f) rs′ ends k }
+
+  -- An argument alone.
+  module _ (z : q .form ≡ 0 → ⊥) (o : q .form ≡ 1 → ⊥) where
+    anew-putting : (r r′ : Term) → Rewriting rs p q r r′ → Room rs p q dst r′ → Putting (area p q) rs (q .first) dst 0 r′
+    unfolding area
+    anew-putting r r′ h room = record {
+      describes = argument-describes rs p q r r′ h (q .first) r′ (by-anew rs p q r′ (h .planned .made) z o);
+      free = room-free rs p q r r′ h dst room;
+      fits = omega arith;
+    }
+
+    pub anew-puts : CanMake rs p q dst → CanPut rs (q .first) dst 0
+    anew-puts v = record { area = area p q; term = v .contractum; can = anew-putting (v .redex) (v .contractum) (v .rewriting) (v .room) }
+
+    pub anew-made : (rs′ : List Record) (e : ℕ) → Puts rs rs′ (q .first) dst 0 e → Makes rs rs′ p q dst e
+    anew-made rs′ e k = record {
+      does = λ r r′ h room.
+          let w = k .does (area p q) r′ (anew-putting r r′ h room) in
+          let same = ap preorder (raised-zero r′) in
+          record { records = w .records ∙ ap (puts rs dst) same; end = w .end ∙ ap (λ vs. dst + length vs) same ∙ ap (λ n. dst + n) (length-preorder r′) };
+    }
+
+pub ruleset making = (copied-there, tree-moves, tree-copied, end-fits, itself-copies, itself-made, body-copies, body-made, anew-puts, anew-made)

@@ -1,0 +1,111 @@
+-- The next term of a term that a state holds, where the search finds its step at p: how many records it has by the plan, and that it can be
+-- written to the other half.
+use Prim.Native.Nat.{ℕ, zero, suc, _+_, _*_, _-_, _≤_}
+use native.Mathlib.Omega.{arith}
+use mathlib.Core.List.{List}
+use mathlib.Core.Logic.{_⊎_, inl, inr, ⊎-map}
+use mathlib.Core.Path.{_≡_, refl}
+use lib.ListN.{length}
+use Rattle.rules.specs.Terms.{Term, size}
+use Rattle.rules.specs.Types.{Table}
+use Rattle.rules.specs.Format.{Record}
+use Rattle.finding.proofs.Next.{NextAt, found-next}
+use Rattle.finding.proofs.Stored.{redex-there}
+use Rattle.planning.specs.declared.Plan.{Plan}
+use Rattle.planning.specs.Planned.{Planned}
+use Rattle.planning.specs.Redexes.{CanPlan, Plans}
+use Rattle.steps.specs.declared.making.Made.{Made}
+use Rattle.steps.specs.declared.state.State.{State}
+use Rattle.steps.specs.Making.{Rewriting, CanMeasure, MeasuresMade}
+use Rattle.steps.specs.Halves.{Holds}
+use Rattle.steps.specs.Copies.{RewrittenBy}
+use Rattle.steps.specs.Stepping.{Becomes, RunsAt}
+use Rattle.steps.proofs.Kept.{zoomed-rewriting}
+use Rattle.steps.proofs.Pieces.{pieces-long}
+
+one-of-two : (n : ℕ) → n ≤ 1 → (n ≡ 0) ⊎ (n ≡ 1)
+one-of-two zero l = inl refl
+one-of-two (suc n) l = inr (omega arith)
+
+module _ (types : Table) (rs : List Record) (s : State) (p : ℕ) (t : Term) (h : RunsAt types rs s p t) where
+  pub next-at : NextAt types t (2048 * s .half) p
+  next-at = found-next types t (2048 * s .half) (h .runs .typed) p (h .found)
+
+  abbrev held : Holds rs s t
+  held = h .runs .holds
+
+  abbrev redex : Term
+  redex = next-at .zoom .redex
+
+  abbrev made : Term
+  made = next-at .zoom .contractum
+
+  abbrev pub following : Term
+  following = next-at .term
+
+  pub becomes : Becomes types t following
+  becomes = record { no-value = rw (next-at .no-value) tt; is-next = next-at .is-next }
+
+  pub redex-plans : CanPlan types rs p
+  redex-plans =
+      let z = next-at .zoom in
+      record {
+        binders = z .binders;
+        level = z .level;
+        redex = redex;
+        contractum = made;
+        there = redex-there rs (2048 * s .half) t (held .there) z;
+        contraction = z .contraction;
+        typed = z .typed;
+      }
+
+  module _ (q : Plan) (plans : Plans types rs p q) where
+    planned : Planned rs p q redex made
+    planned =
+        let z = next-at .zoom in
+        plans .is (z .binders) (z .level) redex made (redex-there rs (2048 * s .half) t (held .there) z) (z .contraction) (z .typed)
+
+    rewriting : Rewriting rs p q redex made
+    rewriting = zoomed-rewriting types rs (2048 * s .half) p q t following (held .there) (held .few) (next-at .zoom) planned
+
+    pub plan-measures : CanMeasure rs p q
+    plan-measures = record { redex = redex; contractum = made; rewriting = rewriting }
+
+    -- The records of both terms, in pieces.
+    pub record Counts : Type 0 where
+      pub outside : ℕ
+      pub end : q .end ≡ p + size redex
+      pub before : s .size ≡ outside + size redex
+      pub after : size following ≡ outside + size made
+      pub few : s .size ≤ 2048
+
+    pub counts : Counts
+    counts =
+        let z = next-at .zoom in
+        let k = held .long in
+        record {
+          outside = length (z .pre) + length (z .suf);
+          end = planned .end;
+          before = omega (arith, pieces-long t redex (z .pre) (z .suf) (z .before));
+          after = omega (arith, pieces-long following made (z .pre) (z .suf) (z .after));
+          few = omega (arith, held .few);
+        }
+
+    module _ (m : Made) (d : MeasuresMade rs p q m) where
+      pub next-size : s .size - (q .end - p) + m .records ≡ size following
+      next-size = let c = counts in omega (arith, d .records redex made rewriting)
+
+      pub rewritten-by : (base dst : ℕ) → base ≡ 2048 * s .half → dst ≡ 2048 * (1 - s .half) → m .records ≤ 2048 - (s .size - (q .end - p)) → RewrittenBy rs base (s .size) p q dst t following
+      rewritten-by base dst b e l =
+          let n = next-size in
+          let c = counts in
+          rw (b, e) (record {
+            types = types;
+            there = held .there;
+            long = held .long;
+            few = held .few;
+            zoom = next-at .zoom;
+            planned = planned;
+            room = omega (arith, held .half, held .room);
+            apart = ⊎-map (λ z. omega (arith, held .few)) (λ z. omega arith) (one-of-two (s .half) (held .half));
+          })

@@ -1,0 +1,123 @@
+-- `State::step` and `State::step_at`: a law for each thing that their bodies ask. `stepping` for search.
+use Prim.Native.Nat.{ℕ, _+_, _*_, _-_, _≤_, _<_}
+use native.Mathlib.Omega.{arith}
+use mathlib.Core.List.{List}
+use mathlib.Core.Path.{_≡_, refl, sym, ap, subst, _∙_}
+use lib.ListN.{length}
+use mir.Syntax.{w32}
+use mir.Val.{Fits}
+use Rattle.rules.specs.Terms.{Term, size}
+use Rattle.rules.specs.Types.{Table}
+use Rattle.rules.specs.Format.{Record}
+use Rattle.terms.specs.Preorder.{preorder, puts, HasTree}
+use Rattle.terms.proofs.Puts.{length-puts, puts-at}
+use Rattle.finding.specs.declared.Found.{Found}
+use Rattle.finding.specs.declared.Found.the-variants.{Done, Redex}
+use Rattle.finding.specs.Finding.{find, Finds}
+use Rattle.finding.proofs.Next.{found-value}
+use Rattle.planning.specs.declared.Plan.{Plan}
+use Rattle.planning.specs.Redexes.{CanPlan, Plans}
+use Rattle.steps.specs.declared.making.Made.{Made}
+use Rattle.steps.specs.declared.state.State.{State}
+use Rattle.steps.specs.Making.{CanMeasure, MeasuresMade}
+use Rattle.steps.specs.Halves.{Holds}
+use Rattle.steps.specs.Copies.{CanRewrite, Rewrites}
+use Rattle.steps.specs.Stepping.{Runs, CanStep, Stays, Moves, After, running, valued, full, Stepped, RunsAt, CanStepAt, SteppedAt}
+use Rattle.steps.proofs.NextTerms.{following, becomes, redex-plans, plan-measures, Counts, counts, next-size, rewritten-by}
+
+-- The state s with another status.
+abbrev withStatus : State → ℕ → State
+withStatus s n = record { half = s .half; size = s .size; steps = s .steps; status = n }
+
+-- The state after a step to a term of n records.
+abbrev moved : State → ℕ → State
+moved s n = record { half = 1 - s .half; size = n; steps = s .steps + 1; status = s .status }
+
+stays : (rs : List Record) (s : State) (n : ℕ) (t : Term) → Holds rs s t → Stays rs rs s (withStatus s n) t
+stays rs s n t h = record { same = refl; holds = record { half = h .half; there = h .there; long = h .long; few = h .few; room = h .room }; half = refl; steps = refl }
+
+-- The next term is held, once it is written to the other half.
+moves : (rs rs′ : List Record) (s : State) (n : ℕ) (t u : Term) → Holds rs s t → size u ≤ 2048 → n ≡ size u → rs′ ≡ puts rs (2048 * (1 - s .half)) (preorder u)
+    → Moves rs′ s (moved s n) u
+moves rs rs′ s n t u h b e w = record {
+  holds = record {
+    half = omega arith;
+    there = rw w (puts-at rs (2048 * (1 - s .half)) u (omega (arith, h .half, h .room)));
+    long = sym e;
+    few = b;
+    room = omega (arith, h .room, ap length w ∙ length-puts rs (2048 * (1 - s .half)) (preorder u));
+  };
+  half = refl;
+  steps = refl;
+}
+
+-- `step_at`.
+module _ (types : Table) (rs : List Record) (s : State) (p : ℕ) (h : CanStepAt types rs s p) where
+  pub step-half : s .half ≤ 1
+  step-half = h .runs .runs .holds .half
+
+  pub step-counts : Fits w32 (s .steps + 1)
+  step-counts = omega (arith, h .counts)
+
+  pub step-plans : CanPlan types rs p
+  step-plans = redex-plans types rs s p (h .term) (h .runs)
+
+  module _ (q : Plan) (plans : Plans types rs p q) where
+    pieces : Counts types rs s p (h .term) (h .runs) q plans
+    pieces = counts types rs s p (h .term) (h .runs) q plans
+
+    pub step-measures : CanMeasure rs p q
+    step-measures = plan-measures types rs s p (h .term) (h .runs) q plans
+
+    pub step-end : p ≤ q .end
+    step-end = omega (arith, pieces .end)
+
+    pub step-inside : q .end - p ≤ s .size
+    step-inside = let c = pieces in omega arith
+
+    module _ (m : Made) (d : MeasuresMade rs p q m) where
+      pub step-full : 2048 - (s .size - (q .end - p)) < m .records → SteppedAt types rs rs s (withStatus s 2) p
+      step-full l = record {
+        does = λ t k.
+            full (following types rs s p t k) (becomes types rs s p t k) (omega (arith, next-size types rs s p t k q plans m d)) (stays rs s 2 t (k .runs .holds));
+      }
+
+      module _ (l : m .records ≤ 2048 - (s .size - (q .end - p))) (base dst : ℕ) (b : base ≡ 2048 * s .half) (e : dst ≡ 2048 * (1 - s .half)) where
+        pub step-rewrites : CanRewrite rs base (s .size) p q dst
+        step-rewrites = record { term = h .term; after = _; can = rewritten-by types rs s p (h .term) (h .runs) q plans m d base dst b e l }
+
+        pub step-moves : (rs′ : List Record) → Rewrites rs rs′ base (s .size) p q dst → SteppedAt types rs rs′ s (moved s (s .size - (q .end - p) + m .records)) p
+        step-moves rs′ w = record {
+          does = λ t k.
+              let u = following types rs s p t k in
+              let n = next-size types rs s p t k q plans m d in
+              let c = counts types rs s p t k q plans in
+              let few : size u ≤ 2048 = omega arith in
+              let put : rs′ ≡ puts rs (2048 * (1 - s .half)) (preorder u) = w .does t u (rewritten-by types rs s p t k q plans m d base dst b e l) ∙ ap (λ i. puts rs i (preorder u)) e in
+              subst (After types rs rs′ s (moved s (s .size - (q .end - p) + m .records)) t) (sym (h .running))
+              (running u (becomes types rs s p t k) few (moves rs rs′ s _ t u (k .runs .holds) few n put));
+        }
+
+-- `step`.
+module _ (types : Table) (rs : List Record) (s : State) (h : CanStep types rs s) (base : ℕ) (b : base ≡ 2048 * s .half) where
+  pub step-searches : HasTree rs base
+  step-searches = record { tree = h .term; there = rw b (h .runs .holds .there) }
+
+  module _ (f : Found) (finds : Finds 0 rs base f) where
+    found-of : (t : Term) → Runs types rs s t → f ≡ find 0 t (2048 * s .half)
+    found-of t k = (rw b at (finds .is)) t (k .holds .there)
+
+    pub step-ends : (e : ℕ) → f ≡ Done e → Stepped types rs rs s (withStatus s 1)
+    step-ends e g = record { does = λ t k. valued (found-value types t (2048 * s .half) (k .typed) e (sym (found-of t k) ∙ g)) (stays rs s 1 t (k .holds)) }
+
+    module _ (p : ℕ) (g : f ≡ Redex p) where
+      runs-at : (t : Term) → Runs types rs s t → RunsAt types rs s p t
+      runs-at t k = record { runs = k; found = sym (found-of t k) ∙ g }
+
+      pub step-found : CanStepAt types rs s p
+      step-found = record { term = h .term; runs = runs-at (h .term) (h .runs); running = h .running; counts = h .counts }
+
+      pub step-made : (rs′ : List Record) (r : State) → SteppedAt types rs rs′ s r p → Stepped types rs rs′ s r
+      step-made rs′ r w = record { does = λ t k. w .does t (runs-at t k) }
+
+pub ruleset stepping = (step-half, step-counts, step-plans, step-measures, step-end, step-inside, step-full, step-searches, step-ends, step-found, step-made)
