@@ -1,4 +1,5 @@
-/* Muntinyarrow: a proved engine for the two-level generator language. Link with libengine.a. */
+/* Muntinyarrow: a proved engine for the two-level generator language. Link with libengine.a.
+ * The calls keep no state: any number of them may go on at once, each with its own buffers. */
 #ifndef MUNTINYARROW_H
 #define MUNTINYARROW_H
 
@@ -9,6 +10,10 @@
 extern "C" {
 #endif
 
+/* The buffers that a run is lent have at least these lengths. */
+#define MUNTINYARROW_OUTPUT 34308
+#define MUNTINYARROW_WORK 65536
+
 /* What check says of a program. Passed: number and place are 0, root_type is the root's type entry and records the number of records.
  * Refused: number is 3 to 12, place the entry or record that is named (0 for 3 to 5), and the other fields are 0. */
 struct muntinyarrow_check_answer {
@@ -18,8 +23,25 @@ struct muntinyarrow_check_answer {
     uint32_t records;
 };
 
-/* Checks a program of any bytes. It keeps no state and writes nothing; calls may go on at once. */
+/* What a run answers. Accepted: number and place are 0; ending is 1 for a value, 2 for spent fuel, 3 for a full table; steps is how many were
+ * made, root_type the root's type entry, written the length of the program in the output. Refused: number is 1 to 12, place as for check (0 for
+ * 1 and 2), and the other fields are 0. */
+struct muntinyarrow_run_answer {
+    uint32_t number;
+    uint32_t place;
+    uint32_t ending;
+    uint32_t steps;
+    uint32_t root_type;
+    uint32_t written;
+};
+
+/* Checks a program of any bytes. */
 struct muntinyarrow_check_answer muntinyarrow_check(const uint8_t *program, size_t length);
+
+/* Runs a program of any bytes with the fuel. The output gets the same type table and the last term; its bytes beyond the written length stay, and
+ * so do those of both buffers where the run is refused. The first 65,536 bytes of the work buffer are then free, the others stay. */
+struct muntinyarrow_run_answer muntinyarrow_run(const uint8_t *program, size_t length, uint32_t fuel, uint8_t *output, size_t output_length,
+                                                uint8_t *work, size_t work_length);
 
 #ifdef __cplusplus
 }

@@ -55,9 +55,10 @@ module _ (p : List ℕ) (h : Passing p) where
     pub passing-root : 0 < length (recordsIn (take (length p - (4 + 6 * T)) (drop (4 + 6 * T) p)))
     passing-root = omega (arith, ap length records-there, records-counted p, meets .counts .1 .0)
 
-    pub check-passed : (R : ℕ) (r : Record) → R ≡ recordCount p → recordMeant r ≡ getD (recordsIn (take (length p - (4 + 6 * T)) (drop (4 + 6 * T) p))) 0 noRecord
-        → passing (r .ty) R ≡ checkAnswer p
-    check-passed R r eR e =
-        ap₂ passing (ap (λ x. x .fields .type) e ∙ ap (λ rs. getD rs 0 noRecord .fields .type) (sym records-there)) eR ∙ sym (answered p (h .is))
+    pub root-told : (r : Record) → recordMeant r ≡ getD (recordsIn (take (length p - (4 + 6 * T)) (drop (4 + 6 * T) p))) 0 noRecord → r .ty ≡ typeNo (recordsOf p) 1
+    root-told r e = ap (λ x. x .fields .type) e ∙ ap (λ rs. getD rs 0 noRecord .fields .type) (sym records-there)
 
-pub ruleset checking = (check-refused, check-passing, passing-types, passing-count, passing-end, passing-root, check-passed)
+  pub check-passed : (root R : ℕ) → root ≡ typeNo (recordsOf p) 1 → R ≡ recordCount p → passing root R ≡ checkAnswer p
+  check-passed root R e eR = ap₂ passing e eR ∙ sym (answered p (h .is))
+
+pub ruleset checking = (check-refused, check-passing, passing-types, passing-count, passing-end, passing-root, root-told, check-passed)

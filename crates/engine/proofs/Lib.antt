@@ -1,2 +1,6 @@
 -- The laws of the public calls.
 pub mod Checks
+pub mod Stepping
+pub mod Looping
+pub mod Accepting
+pub mod Answering

@@ -1,2 +1,5 @@
--- What the answers of the public calls mean.
+-- What the answers of the public calls mean, and what their parts ask and ensure.
 pub mod Answers
+pub mod Running
+pub mod Looping
+pub mod Accepting

@@ -1,7 +1,14 @@
 // The public calls. None has a condition: any bytes get an answer, and the contract fixes every field of it.
 ghost use mathlib.Core.Path.{_≡_};
-ghost use Rattle.rules.specs.Check.{checkAnswer};
-ghost use Rattle.engine.specs.Answers.{checkMeant, Passing};
+ghost use Rattle.rules.specs.Format.{recordsOf};
+ghost use Rattle.rules.specs.Check.{typeNo, checkAnswer};
+ghost use Rattle.rules.specs.Run.{refused};
+ghost use Rattle.records.specs.View.{entriesIn, recordsIn};
+ghost use Rattle.steps.specs.Stepping.{HoldsTyped};
+ghost use Rattle.engine.specs.Answers.{checkMeant, runMeant, Passing, Ran};
+ghost use Rattle.engine.specs.Looping.{CanRun, RunsOut, Concludes};
+ghost use Rattle.engine.specs.Accepting.{CanAccept, Accepted};
+use steps::State;
 
 // What check says of a program: passed, with number and place 0, the root's type and the number of records; or refused, with document 01's
 // number and place and the other fields 0.
@@ -30,27 +37,143 @@ pub fn check(program: &[u8]) -> CheckAnswer
     passed(program)
 }
 
+// The root's type of a program that is passed.
+fn root_type(program: &[u8]) -> u16
+    requires { ⌜ Passing (now program) ⌝ }
+    ensures { λ r. ⌜ r ≡ typeNo (recordsOf (now (program .entry))) 1 ⌝ }
+{
+    let types = records::get16(program, 0);
+    let end = 4 + 6 * (types as usize);
+    let root = records::get(&program[end..], 0);
+    root.ty
+}
+
 // The answer for a program that is passed.
 fn passed(program: &[u8]) -> CheckAnswer
     requires { ⌜ Passing (now program) ⌝ }
     ensures { λ r. ⌜ checkMeant r ≡ checkAnswer (now (program .entry)) ⌝ }
 {
-    let types = records::get16(program, 0);
+    let root = root_type(program);
     let count = records::get16(program, 2);
-    let end = 4 + 6 * (types as usize);
-    let root = records::get(&program[end..], 0);
     CheckAnswer {
         number: 0,
         place: 0,
-        root: root.ty as u32,
+        root: root as u32,
         records: count as u32,
     }
 }
 
-// The same for C: a pointer to the bytes and their number.
+// What a run answers. Accepted: number and place are 0, ending is 1 for a value, 2 for spent fuel and 3 for a full table; the steps made, the
+// root's type and the written length. Refused: document 01's number and place, and the other fields 0.
+#[repr(C)]
+pub struct RunAnswer {
+    pub number: u32,
+    pub place: u32,
+    pub ending: u32,
+    pub steps: u32,
+    pub root: u32,
+    pub written: u32,
+}
+
+// The answer of a refused run.
+fn refusing(number: u16, place: u16) -> RunAnswer
+    ensures { λ r. ⌜ runMeant r ≡ refused number place ⌝ }
+{
+    RunAnswer {
+        number: number as u32,
+        place: place as u32,
+        ending: 0,
+        steps: 0,
+        root: 0,
+        written: 0,
+    }
+}
+
+// Steps until the term is a value, the fuel is spent or the table is full.
+fn run_steps(start: State, table: &[u8], fuel: u32, work: &mut [u8]) -> State
+    requires { ⌜ CanRun (entriesIn (now table)) (recordsIn (now work)) start ⌝ }
+    ensures { λ r. ⌜ RunsOut (entriesIn (now (table .entry))) fuel (recordsIn (now (work .entry))) (recordsIn (now (work .exit))) start r ⌝ }
+{
+    let mut s = start;
+    while s.steps < fuel {
+        s = s.step(table, work);
+        if s.status != 0 {
+            return s;
+        }
+    }
+    s
+}
+
+// The number of the ending of a run that has stopped.
+fn ending_of(s: State, work: &[u8]) -> u32
+    requires { ⌜ HoldsTyped (recordsIn (now work)) s ⌝ }
+    ensures { λ r. ⌜ Concludes (recordsIn (now (work .entry))) s r ⌝ }
+{
+    let status = s.status;
+    match status {
+        1 => 1,
+        2 => 3,
+        _ => { if s.is_value(work) { 1 } else { 2 } }
+    }
+}
+
+// The run of a program that is passed.
+fn accepted(program: &[u8], fuel: u32, output: &mut [u8], work: &mut [u8]) -> RunAnswer
+    requires { ⌜ CanAccept (now program) (now output) (now work) ⌝ }
+    ensures { λ r. ⌜ Accepted (now (program .entry)) fuel (now (output .entry)) (now (output .exit)) r ⌝ }
+{
+    let root = root_type(program);
+    let types = records::get16(program, 0);
+    let count = records::get16(program, 2);
+    let end = 4 + 6 * (types as usize);
+    let start = State::start(&program[end..], count, work);
+    let last = run_steps(start, &program[4..end], fuel, work);
+    let ending = ending_of(last, work);
+    let written = last.write_out(&program[4..end], types, work, output);
+    RunAnswer {
+        number: 0,
+        place: 0,
+        ending: ending,
+        steps: last.steps,
+        root: root as u32,
+        written: written as u32,
+    }
+}
+
+// Runs a program of any bytes, with any fuel and buffers of any length.
+pub fn run(program: &[u8], fuel: u32, output: &mut [u8], work: &mut [u8]) -> RunAnswer
+    ensures { λ r. ⌜ Ran (now (program .entry)) fuel (now (output .entry)) (now (work .entry)) r (now (output .exit)) (now (work .exit)) ⌝ }
+{
+    if output.len() < 34308 {
+        return refusing(1, 0);
+    }
+    if work.len() < 65536 {
+        return refusing(2, 0);
+    }
+    let fault = checker::program_fault(program);
+    let number = fault.number;
+    if number != 0 {
+        return refusing(number, fault.place);
+    }
+    accepted(program, fuel, output, &mut work[..65536])
+}
+
+// The calls for C: each slice is a pointer and a length.
 #[no_mangle]
 pub extern "C" fn muntinyarrow_check(program: &[u8]) -> CheckAnswer
     ensures { λ r. ⌜ checkMeant r ≡ checkAnswer (now (program .entry)) ⌝ }
 {
     check(program)
+}
+
+#[no_mangle]
+pub extern "C" fn muntinyarrow_run(
+    program: &[u8],
+    fuel: u32,
+    output: &mut [u8],
+    work: &mut [u8],
+) -> RunAnswer
+    ensures { λ r. ⌜ Ran (now (program .entry)) fuel (now (output .entry)) (now (work .entry)) r (now (output .exit)) (now (work .exit)) ⌝ }
+{
+    run(program, fuel, output, work)
 }

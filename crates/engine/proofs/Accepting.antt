@@ -1,0 +1,125 @@
+-- The run of a passed program, from its bytes to the written bytes: `accepting` for search.
+use Prim.Native.Nat.{ℕ, _+_, _*_, _-_}
+use native.Mathlib.Omega.{arith}
+use mathlib.Core.List.{List, _++_}
+use mathlib.Core.Path.{_≡_, sym, ap, ap₂, _∙_}
+use lib.ListN.{length, take, drop, length-take, length-drop}
+use mir.Syntax.{w32}
+use mir.Val.{Fits}
+use Rattle.rules.specs.Terms.{Term, typeOf}
+use Rattle.rules.specs.Format.{Record, typeCount, recordCount, tableOf, recordsOf}
+use Rattle.rules.specs.Links.{rootTree, written}
+use Rattle.rules.specs.Check.{typeNo}
+use Rattle.rules.specs.Meets.{Meets}
+use Rattle.rules.specs.Run.{endingNumber, outcome, result}
+use Rattle.rules.proofs.Meaning.{exactly, records-counted, unlike}
+use Rattle.rules.proofs.Tree.{tree-type}
+use Rattle.rules.proofs.Whole.{last-type}
+use Rattle.records.specs.View.{entriesIn, recordsIn}
+use Rattle.records.proofs.Program.{program-table-slice, program-records-slice}
+use Rattle.records.proofs.Records.{records-length}
+use Rattle.steps.specs.declared.state.State.{State}
+use Rattle.steps.specs.Starting.{CanStart, Starts}
+use Rattle.steps.specs.Stepping.{Runs, HoldsTyped}
+use Rattle.steps.specs.Output.{CanWriteOut, WritesOut}
+use Rattle.steps.proofs.Running.{runs-first}
+use Rattle.engine.specs.Running.{endedAt}
+use Rattle.engine.specs.Looping.{CanRun, Stopped, RunsOut, Concluded, Concludes}
+use Rattle.engine.specs.Accepting.{CanAccept, Accepted}
+
+-- The two parts of the program that the code lends on.
+abbrev tablePart : List ℕ → ℕ → List ℕ
+tablePart p T = take (4 + 6 * T - 4) (drop 4 p)
+
+abbrev recordPart : List ℕ → ℕ → List ℕ
+recordPart p T = take (length p - (4 + 6 * T)) (drop (4 + 6 * T) p)
+
+module _ (p out work : List ℕ) (h : CanAccept p out work) (T R : ℕ) (eT : T ≡ typeCount p) (eR : R ≡ recordCount p) where
+  m : Meets p
+  m = exactly p .0 (h .passing .is)
+
+  table-is : tableOf p ≡ entriesIn (tablePart p T)
+  table-is = program-table-slice p (m .exact) (4 + 6 * T) (omega (arith, eT))
+
+  records-are : recordsOf p ≡ recordsIn (recordPart p T)
+  records-are = program-records-slice p (m .exact) (4 + 6 * T) (omega (arith, eT))
+
+  pub accept-starts : CanStart (recordsIn (recordPart p T)) R (recordsIn work)
+  accept-starts = record {
+    types = tableOf p;
+    form = rw (← records-are) (m .form);
+    counted = ap length (sym records-are) ∙ records-counted p ∙ sym eR;
+    some = omega (arith, eR, m .counts .1 .0);
+    few = omega (arith, eR, m .counts .1 .0);
+    room = omega (arith, records-length work, h .halves);
+  }
+
+  module _ (rs₁ : List Record) (s : State) (st : Starts (recordsIn (recordPart p T)) rs₁ s) where
+    abbrev first : Term
+    first = rootTree (recordsIn (recordPart p T))
+
+    runs : Runs (entriesIn (tablePart p T)) rs₁ s first
+    runs = runs-first (entriesIn (tablePart p T)) (recordsIn (recordPart p T)) rs₁ s (rw (← table-is, ← records-are) (m .form)) st
+
+    pub accept-runs : CanRun (entriesIn (tablePart p T)) rs₁ s
+    accept-runs = record {
+      term = first;
+      runs = runs;
+      running = st .status;
+      none = st .steps;
+      unlike = rw (← table-is) (unlike (tableOf p) (m .form .entries));
+    }
+
+    module _ (fuel : ℕ) (rs₂ : List Record) (q : State) (ro : RunsOut (entriesIn (tablePart p T)) fuel rs₁ rs₂ s q) where
+      stopped : Stopped (entriesIn (tablePart p T)) fuel first rs₂ q
+      stopped = ro .does first runs
+
+      pub accept-holds : HoldsTyped rs₂ q
+      accept-holds = record { types = entriesIn (tablePart p T); term = stopped .last; runs = stopped .runs }
+
+      table-long : length (tablePart p T) ≡ 6 * T
+      table-long = omega (arith, length-take (4 + 6 * T - 4) (drop 4 p), length-drop 4 p, m .exact, eT)
+
+      pub accept-writes : CanWriteOut (tablePart p T) T rs₂ q out
+      accept-writes = record {
+        term = stopped .last;
+        holds = stopped .runs .holds;
+        entries = table-long;
+        some-types = omega (arith, eT, m .counts .0);
+        few-types = omega (arith, eT, m .counts .0);
+        room = h .room;
+      }
+
+      module _ (out′ : List ℕ) (w : ℕ) (wo : WritesOut (tablePart p T) T rs₂ q out out′ w) where
+        pub accept-fits : Fits w32 w
+        accept-fits = omega (arith, wo .does (stopped .last) (stopped .runs .holds) .long, stopped .runs .holds .long, stopped .runs .holds .few, eT, m .counts .0)
+
+        module _ (e root : ℕ) (co : Concludes rs₂ q e) (er : root ≡ typeNo (recordsOf p) 1) where
+          concluded : Concluded (entriesIn (tablePart p T)) fuel first rs₂ q e
+          concluded = co .does (entriesIn (tablePart p T)) fuel first stopped
+
+          outcome-is : outcome p fuel ≡ endedAt (concluded .ending) (q .steps) (concluded .last)
+          outcome-is = rw (table-is, records-are) (concluded .outcome)
+
+          result-is : result p fuel ≡ written (entriesIn (tablePart p T)) (concluded .last)
+          result-is = ap₂ written table-is (ap (λ o. o .last) outcome-is)
+
+          root-is : root ≡ typeOf (outcome p fuel .last)
+          root-is = er ∙ sym (tree-type (recordsOf p) (length (recordsOf p)) 1) ∙ sym (last-type p m fuel)
+
+          pub accept-done : Accepted p fuel out out′ (record { number = 0; place = 0; ending = e; steps = q .steps; root = root; written = w })
+          accept-done =
+              let b = wo .does (concluded .last) (concluded .runs .holds) in
+              record {
+                answer = λ i. record {
+                  number = 0;
+                  place = 0;
+                  ending = (concluded .number ∙ ap (λ o. endingNumber (o .ending)) (sym outcome-is)) i;
+                  steps = ap (λ o. o .steps) (sym outcome-is) i;
+                  type = root-is i;
+                  written = (b .end ∙ ap length (sym result-is)) i;
+                };
+                output = b .bytes ∙ ap (λ x. x ++ drop (length x) out) (sym result-is);
+              }
+
+pub ruleset accepting = (accept-starts, accept-runs, accept-holds, accept-writes, accept-fits, accept-done)

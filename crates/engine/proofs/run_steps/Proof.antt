@@ -1,0 +1,29 @@
+-- `engine::run_steps` meets its contract. The invariant: the run of the first term stands where the state is. The measure is the fuel that is
+-- left. Assumes nothing.
+use Prim.Native.Nat.{_-_}
+use mathlib.Core.Path.{_≡_}
+use lib.ListN.{length}
+use borrow.Author.Needs.{needs}
+use Rattle.records.specs.View.{entriesIn, recordsIn}
+use Rattle.engine.proofs.Looping.{Going, looping}
+use Rattle.engine.proofs.run_steps.Statement.{statement}
+use Rattle.engine.proofs.run_steps.Tie as tie
+
+abbrev Inv-loop : tie.InvT-loop
+Inv-loop table fuel work₀ s₀ work s = (length work ≡ length work₀) × Going (entriesIn table) fuel (recordsIn work₀) (recordsIn work) s₀ s
+
+abbrev μ-loop : tie.MeasureT-loop
+μ-loop table fuel work₀ s₀ work s = fuel - s .steps
+
+pub run-steps-spec : {M : Type 1} → statement M
+run-steps-spec =
+    tie.close (tie.spec Inv-loop μ-loop
+    (λ c. search (looping, needs))  -- loop-holds
+    (λ c κs. search (looping, needs))  -- step-requires
+    (λ c. search (looping, needs))  -- same-length
+    (λ c. search (looping, needs))  -- returns
+    (λ c. search (looping, needs))  -- loop-less
+    (λ c. search (looping, needs))  -- loop-again
+    (λ c. search (looping, needs))  -- same-length-2
+    (λ c. search (looping, needs))  -- returns-2
+    )
