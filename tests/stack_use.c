@@ -1,4 +1,5 @@
-/* Measures the stack that a call of check takes on the deepest program: a chain of 2,048 records, quote over splice over quote and so on. */
+/* Measures the stack that a call of check and a call of run take on the deepest program: a chain of 2,048 records, quote over splice over quote
+ * and so on. */
 #define _GNU_SOURCE
 #include <stdio.h>
 #include <string.h>
@@ -8,8 +9,10 @@
 enum { STACK = 8 << 20, RECORDS = 2048, TYPES = 2, LENGTH = 4 + 6 * TYPES + 16 * RECORDS };
 
 static unsigned char stack[STACK], program[LENGTH];
+static unsigned char output[MUNTINYARROW_OUTPUT], work[MUNTINYARROW_WORK];
 static ucontext_t back, there;
-static struct muntinyarrow_check_answer answer;
+static struct muntinyarrow_check_answer checked;
+static struct muntinyarrow_run_answer run;
 
 static void put16(unsigned char *at, unsigned v) {
     at[0] = v & 255;
@@ -31,10 +34,12 @@ static void make_program(void) {
     }
 }
 
-static void call(void) { answer = muntinyarrow_check(program, LENGTH); }
+static void call_check(void) { checked = muntinyarrow_check(program, LENGTH); }
 
-int main(void) {
-    make_program();
+static void call_run(void) { run = muntinyarrow_run(program, LENGTH, 2000, output, sizeof output, work, sizeof work); }
+
+/* The bytes of a fresh stack that the call touches. */
+static size_t stack_of(void (*call)(void)) {
     memset(stack, 0xa5, STACK);
     getcontext(&there);
     there.uc_stack.ss_sp = stack;
@@ -45,6 +50,14 @@ int main(void) {
     size_t untouched = 0;
     while (untouched < STACK && stack[untouched] == 0xa5)
         untouched++;
-    printf("check of %d records in a chain: number %u, type %u, records %u; %zu bytes of stack\n", RECORDS, answer.number, answer.root_type, answer.records, (size_t)STACK - untouched);
-    return answer.number != 0;
+    return (size_t)STACK - untouched;
+}
+
+int main(void) {
+    make_program();
+    size_t used = stack_of(call_check);
+    printf("check of a chain of %d records: number %u, records %u; %zu bytes of stack\n", RECORDS, checked.number, checked.records, used);
+    used = stack_of(call_run);
+    printf("run of it: number %u, ending %u, steps %u, written %u; %zu bytes of stack\n", run.number, run.ending, run.steps, run.written, used);
+    return checked.number != 0 || run.number != 0;
 }
