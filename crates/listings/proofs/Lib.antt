@@ -1,0 +1,5 @@
+-- The laws of the listing.
+pub mod Numbered
+pub mod Runs
+pub mod Showing
+pub mod Printed
