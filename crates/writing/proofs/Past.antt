@@ -12,6 +12,7 @@ use Rattle.rules.proofs.Laid.{size-some, length-laid}
 use Rattle.writing.specs.declared.Writer.{Writer}
 use Rattle.writing.specs.declared.Written.{Written}
 use Rattle.writing.specs.Slots.{Filled, HasSlot, Heads, Links}
+use Rattle.writing.specs.State.{movedOn}
 use Rattle.writing.specs.Tree.{Writable, Wrote, Writes}
 use Rattle.writing.proofs.Slots.{filled-length, filled-one, filled-then, filled-linked}
 use Rattle.terms.proofs.Children.{kids, AtAll, kids-at}
@@ -37,7 +38,7 @@ pub record Rest (ws : List Record) (i : ℕ) (s : List ℕ) (st : Writer) (t : T
 
 -- After the root no child is past.
 pub root-written : (ws : List Record) (i : ℕ) (s : List ℕ) (st : Writer) (t : Term) (s′ : List ℕ) (count : ℕ) → Heads ws i s (st .number) s′ count → Writable ws i s st t
-    → Rest ws i s st t count 0 s′ (i + 1) (record { number = st .number + 1; length = st .length + 16 })
+    → Rest ws i s st t count 0 s′ (i + 1) (movedOn st)
 root-written ws i s st t s′ count b h =
     let e = headed-root ws i (st .number) t (h .there) in
     record {

@@ -4,7 +4,7 @@ use native.Mathlib.Omega.{arith}
 use mathlib.Core.Path.{_≡_}
 use mathlib.Core.List.{List, [], _∷_}
 use lib.ListN.{length}
-use mir.Syntax.{w16, w64}
+use mir.Syntax.{w64}
 use mir.Val.{Fits}
 use Rattle.rules.specs.Terms.{Term}
 use Rattle.rules.specs.Format.{Record}
@@ -14,13 +14,10 @@ use Rattle.records.proofs.Records.{records-room}
 use Rattle.terms.proofs.Trees.{at-first}
 use Rattle.writing.specs.declared.Writer.{Writer}
 use Rattle.writing.specs.declared.Written.{Written}
-use Rattle.writing.specs.Slots.{HasSlot, CanHead, Heads, Links}
+use Rattle.writing.specs.Slots.{HasSlot, Links}
+use Rattle.writing.specs.State.{CanPut, Puts}
 use Rattle.writing.specs.Tree.{Writable, CanWrite, Wrote, Writes}
 use Rattle.writing.proofs.Past.{Left, Rest, root-written, written-without-children, child-writable, last-child-written, child-has-slot, child-linked}
-
--- The state after the root.
-abbrev after-root : Writer → Writer
-after-root st = record { number = st .number + 1; length = st .length + 16 }
 
 -- Of the `count` children of the tree at i, k are written: s₁, `place` and st₁ are the bytes, the place and the state then.
 pub record Past (ws : List Record) (i : ℕ) (s : List ℕ) (st : Writer) (count k : ℕ) (s₁ : List ℕ) (place : ℕ) (st₁ : Writer) : Type 0 where
@@ -31,24 +28,21 @@ module _ {ws : List Record} {i : ℕ} {s : List ℕ} {st : Writer} where
   root-read : CanWrite ws i s st → i < length ws
   root-read h = at-first ws i (h .tree) (h .can .there)
 
-  pub can-head : CanWrite ws i s st → CanHead ws i s (st .number)
-  can-head h =
+  pub can-put : CanWrite ws i s st → CanPut ws i s st
+  can-put h =
       let z = size-some (h .tree) in
-      record { read = root-read h; put = record { counted = h .can .counted; slot = omega (arith, h .can .counted, h .can .room) }; few = omega (arith, h .can .few) }
+      record {
+        head = record { read = root-read h; put = record { counted = h .can .counted; slot = omega (arith, h .can .counted, h .can .room) }; few = omega (arith, h .can .few) };
+        short = omega (arith, h .can .short);
+      }
 
-  pub number-fits : CanWrite ws i s st → Fits w16 (st .number + 1)
-  number-fits h = omega (arith, h .can .few, size-some (h .tree))
+  module _ {count : ℕ} {s₁ : List ℕ} {st₁ : Writer} (b : Puts ws i s st s₁ st₁ count) where
+    pub past-none : Past ws i s st count 0 s₁ (i + 1) st₁
+    past-none = record { does = λ t h. rw (b .moved) (root-written ws i s st t s₁ count (b .head) h) }
 
-  pub length-fits : CanWrite ws i s st → Fits w64 (st .length + 16)
-  length-fits h = omega (arith, h .can .short, size-some (h .tree))
-
-  module _ {count : ℕ} {s₁ : List ℕ} (b : Heads ws i s (st .number) s₁ count) where
-    pub past-none : Past ws i s st count 0 s₁ (i + 1) (after-root st)
-    past-none = record { does = λ t h. root-written ws i s st t s₁ count b h }
-
-    pub writes-leaf : count ≡ 0 → Writes ws i s s₁ st (record { next = i + 1; state = after-root st })
+    pub writes-leaf : count ≡ 0 → Writes ws i s s₁ st (record { next = i + 1; state = st₁ })
     writes-leaf e = record {
-      does = λ t h. let p = root-written ws i s st t s₁ count b h in written-without-children ws i s st t h s₁ (i + 1) (after-root st) (p .trees) (omega (arith, p .many)) (p .left);
+      does = λ t h. let p = past-none .does t h in written-without-children ws i s st t h s₁ (i + 1) st₁ (p .trees) (omega (arith, p .many)) (p .left);
     }
 
   -- The children.
@@ -108,4 +102,4 @@ module _ (w : List ℕ) {i : ℕ} {s : List ℕ} {st : Writer} (h : CanWrite (re
       → (length w - place < m) × CanWrite (recordsIn w) place s₁ st₁
   ask-child e n p = (omega (arith, records-room w i (root-read h), child-later p h), can-write-child p n h)
 
-pub ruleset writing-tree = (can-head, number-fits, length-fits, place-fits, writes-leaf, writes-last, past-none)
+pub ruleset writing-tree = (can-put, place-fits, writes-leaf, writes-last, past-none)

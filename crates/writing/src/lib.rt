@@ -9,10 +9,11 @@ ghost use Rattle.rules.specs.Lists.{pick};
 ghost use Rattle.records.specs.Overwritten.{overwritten};
 ghost use Rattle.records.specs.View.{recordsIn};
 ghost use Rattle.writing.specs.Slots.{HasSlot, CanHead, Heads, Links};
+ghost use Rattle.writing.specs.State.{CanPut, Puts};
 ghost use Rattle.writing.specs.Tree.{CanWrite, Writes};
 ghost use Rattle.writing.specs.Program.{CanWriteRecords, WritesRecords, CanWriteProgram, WritesProgram};
 
-// What is written next: the number of the next record, and the bytes written so far.
+// What is written next: the number of the next record, and the bytes written so far. Only `put` moves it on.
 pub struct Writer {
     pub number: u16,
     pub length: usize,
@@ -45,6 +46,34 @@ fn write_head(w: &[u8], i: usize, out: &mut [u8], number: u16) -> u16
     children
 }
 
+impl Writer {
+    // Writes the record at `i` of `w` under the next number, and moves on by that record. Tells how many children it has.
+    fn put(&mut self, w: &[u8], i: usize, out: &mut [u8]) -> u16
+        requires { ⌜ CanPut (recordsIn (now w)) i (now out) (now self) ⌝ }
+        ensures { λ r. ⌜ Puts (recordsIn (now (w .entry))) i (now (out .entry)) (now (self .entry)) (now (out .exit)) (now (self .exit)) r ⌝ }
+    {
+        let children = write_head(w, i, out, self.number);
+        self.number += 1;
+        self.length += 16;
+        children
+    }
+}
+
+// What a record's writing leaves: how many children it has, and the state after it.
+struct Begun {
+    pub children: u16,
+    pub state: Writer,
+}
+
+// Lends the state for the writing of the record at `i` of `w`, so that no caller needs a reference to it.
+fn put_record(w: &[u8], i: usize, out: &mut [u8], mut state: Writer) -> Begun
+    requires { ⌜ CanPut (recordsIn (now w)) i (now out) state ⌝ }
+    ensures { λ r. ⌜ Puts (recordsIn (now (w .entry))) i (now (out .entry)) state (now (out .exit)) (r .state) (r .children) ⌝ }
+{
+    let children = state.put(w, i, out);
+    Begun { children, state }
+}
+
 // Writes record `number` again, with another sibling.
 fn set_next(out: &mut [u8], number: u16, next: u16)
     requires { ⌜ HasSlot (now out) number ⌝ }
@@ -61,11 +90,9 @@ pub fn write_tree(w: &[u8], i: usize, out: &mut [u8], state: Writer) -> Written
     requires { ⌜ CanWrite (recordsIn (now w)) i (now out) state ⌝ }
     ensures { λ r. ⌜ Writes (recordsIn (now (w .entry))) i (now (out .entry)) (now (out .exit)) state r ⌝ }
 {
-    let children = write_head(w, i, out, state.number);
-    let begun = Writer {
-        number: state.number + 1,
-        length: state.length + 16,
-    };
+    let root = put_record(w, i, out, state);
+    let children = root.children;
+    let begun = root.state;
     if children == 0 {
         return Written {
             next: i + 1,
