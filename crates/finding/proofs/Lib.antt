@@ -7,3 +7,4 @@ pub mod Cases
 pub mod Searching
 pub mod Next
 pub mod Stored
+pub mod Scanning

@@ -1,12 +1,12 @@
 -- Where the next step of a term is made.
-use Prim.Native.Nat.{ℕ, _+_}
+use Prim.Native.Nat.{ℕ, _+_, _≤_}
 use mathlib.Core.Path.{_≡_}
 use mathlib.Core.List.{List}
 use mathlib.Core.Bool.{Bool}
 use lib.Dec.{eqb}
-use Rattle.rules.specs.Kinds.{kindNumber}
+use Rattle.rules.specs.Kinds.{splice, kindNumber}
 use Rattle.rules.specs.Lists.{pick}
-use Rattle.rules.specs.Terms.{Term, leaf, unary, binary, ternary, rootKind, size}
+use Rattle.rules.specs.Terms.{Fields, Term, leaf, unary, binary, ternary, rootKind, size}
 use Rattle.rules.specs.Format.{Record}
 use Rattle.rules.specs.Typing.{level₁}
 use Rattle.rules.specs.Steps.{enters}
@@ -49,3 +49,16 @@ pub record KindAt (rs : List Record) (i k : ℕ) : Type 0 where
 -- r is what is found in the tree at i, at level l.
 pub record Finds (l : ℕ) (rs : List Record) (i : ℕ) (r : Found) : Type 0 where
   pub is : (t : Term) → At rs i t → r ≡ find l t i
+
+-- Of the tree t at i: a splice stands at p, and what is found at level 1 in t is what is found in it.
+pub record SpliceAt (rs : List Record) (i p : ℕ) (t : Term) : Type 0 where
+  pub fields : Fields
+  pub code : Term
+  pub there : At rs p (unary splice fields code)
+  pub after : i ≤ p
+  pub same : find 1 t i ≡ find 1 (unary splice fields code) p
+
+-- The first splice at level 1 in the tree at i stands at p; or there is none, and nothing is found at that level.
+pub data FindsSplice (rs : List Record) (i : ℕ) : Found → Type 0 where
+  splice-there : (p : ℕ) → ((t : Term) → At rs i t → SpliceAt rs i p t) → FindsSplice rs i (Redex p)
+  no-splice : (e : ℕ) → ((t : Term) → At rs i t → find 1 t i ≡ Done e) → FindsSplice rs i (Done e)

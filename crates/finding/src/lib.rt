@@ -4,7 +4,7 @@ ghost use Rattle.rules.specs.Kinds.{kindOf};
 ghost use Rattle.records.specs.View.{recordsIn};
 ghost use Rattle.terms.specs.Preorder.{HasTree};
 ghost use Rattle.finding.specs.Contraction.{contracts};
-ghost use Rattle.finding.specs.Finding.{orHere, KindAt, Finds};
+ghost use Rattle.finding.specs.Finding.{orHere, KindAt, Finds, FindsSplice};
 
 // What a search of a tree finds: nothing to step, and the place after the tree; or the place of the record that the rules rewrite.
 pub enum Found {
@@ -81,26 +81,39 @@ pub fn find0(w: &[u8], i: usize) -> Found
     }
 }
 
-// The same at level 1. A splice's child is searched at level 0.
+// The place of the first splice that stands at level 1 in the tree at `i`; or else `Done`, with the place after the tree. No other kind that
+// isn't plain is searched.
+fn first_splice(w: &[u8], i: usize) -> Found
+    requires { ⌜ HasTree (recordsIn (now w)) i ⌝ }
+    ensures { λ r. ⌜ FindsSplice (recordsIn (now (w .entry))) i r ⌝ }
+{
+    let mut at = i;
+    let mut pending: usize = 1;
+    while 0 < pending {
+        let r = records::get(w, at);
+        let kind = r.kind;
+        if contracts_at_one(kind) {
+            return Found::Redex(at);
+        }
+        if rules::is_plain(kind) {
+            pending = pending - 1 + rules::children(kind) as usize;
+            at += 1;
+        } else {
+            pending -= 1;
+            at = terms::skip(w, at);
+        }
+    }
+    Found::Done(at)
+}
+
+// What is found in the tree at `i`, at level 1: what comes before its first splice is plain. A splice's child is searched at level 0.
 pub fn find1(w: &[u8], i: usize) -> Found
     requires { ⌜ HasTree (recordsIn (now w)) i ⌝ }
     ensures { λ r. ⌜ Finds 1 (recordsIn (now (w .entry))) i r ⌝ }
 {
-    let kind = kind_at(w, i);
-    let stepped = rules::stepping_at_one(kind);
-    if stepped == 0 {
-        return Found::Done(terms::skip(w, i));
-    }
-    let rewritten = contracts_at_one(kind);
-    if rules::first_level(kind, 1) == 0 {
-        return or_here(find0(w, i + 1), rewritten, i);
-    }
-    let first = find1(w, i + 1);
-    if stepped == 1 {
-        return or_here(first, rewritten, i);
-    }
-    match first {
-        Found::Redex(p) => Found::Redex(p),
-        Found::Done(e) => or_here(find1(w, e), rewritten, i),
+    let splice = first_splice(w, i);
+    match splice {
+        Found::Redex(p) => or_here(find0(w, p + 1), true, p),
+        Found::Done(e) => Found::Done(e),
     }
 }

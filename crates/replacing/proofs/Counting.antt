@@ -1,7 +1,7 @@
 -- Part way through a count: the root and some of the children are counted, the others are ahead. One law for each thing that the bodies ask.
 use Prim.Native.Nat.{ℕ, _+_, _-_, _^_, _<_}
 use native.Mathlib.Omega.{arith}
-use mathlib.Core.Bool.{Bool, true, false, _&&_}
+use mathlib.Core.Bool.{Bool, true, false, _&&_, false≢true}
 use mathlib.Core.Path.{_≡_, refl, sym, ap, _∙_}
 use mathlib.Core.List.{List, [], _∷_}
 use lib.ListN.{length, getD}
@@ -26,7 +26,6 @@ use Rattle.replacing.specs.Roots.{Branches, namesRemoved, isVariable, gi
 use Rattle.replacing.specs.Counting.{gives, gaveWay, weight, sizeAfter, rootCount, CanCount, Counts, CanAdd, HasAdded, Adds, RootAdds, RoomFor, OneMore}
 use Rattle.replacing.proofs.Kids.{Kid, kids, depths, sizes, kids-size, AllReads, kids-read}
 use Rattle.replacing.proofs.Chain.{branchDepths, Way, none-ahead, first-ahead, one-was-all, second-ahead, two-were-all, third-ahead, three-were-all}
-use Rattle.replacing.proofs.Fronts.{untrue}
 use Rattle.replacing.proofs.Traversal.{branch-depths}
 use Rattle.replacing.proofs.Sums.{summedAll, kids-summed, summed-most, gives-most, weight-most, changed-size, replacing-weighs}
 
@@ -160,11 +159,11 @@ module _ (rs : List Record) (sum : Counted) (d m first second : ℕ) (r₀ : Cou
 -- The root.
 given : (x y : Bool) (p o : ℕ) → (x && y) ≡ true → pick x (pick y p o) o ≡ p
 given true true p o e = refl
-given true false p o e = absurd (untrue e)
-given false y p o e = absurd (untrue e)
+given true false p o e = absurd (false≢true e)
+given false y p o e = absurd (false≢true e)
 
 stays : (x y : Bool) (p o : ℕ) → (x && y) ≡ false → pick x (pick y p o) o ≡ o
-stays true true p o e = absurd (untrue (sym e))
+stays true true p o e = absurd (false≢true (sym e))
 stays true false p o e = refl
 stays false y p o e = refl
 
@@ -229,8 +228,8 @@ count-asks rs src d m first second h = let t = h .tree in record {
   tree = t;
   reads = h .reads;
   records-fit =
-      omega (arith, h .reads .deep, h .area .few, summed-most (weight m first second) 1 (omega arith) (weight-most m first second (h .first-small) (h .second-small)) d t);
-  replaced-fit = omega (arith, h .reads .deep, h .area .few, summed-most (gives m) 0 (omega arith) (gives-most m) d t);
+      omega (arith, h .reads .deep, h .area .few, summed-most (weight m first second) 1 65535 (omega arith) (weight-most m first second 65535 (omega arith) (h .first-small) (h .second-small)) d t);
+  replaced-fit = omega (arith, h .reads .deep, h .area .few, summed-most (gives m) 0 65535 (omega arith) (gives-most m) d t);
 }
 
 pub counted : (rs : List Record) (src d m first second : ℕ) (r : Counted) → Adds rs (from src) d m first second r → Counts rs src d m first second r

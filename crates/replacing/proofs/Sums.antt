@@ -1,5 +1,6 @@
 -- Sums over the records of a term: by its root and children, how large they get, and that they give the size of a changed term.
 use Prim.Native.Nat.{ℕ, _+_, _*_, _-_, _≤_}
+use native.Mathlib.Nat.{mul-one, mul-add}
 use native.Mathlib.Omega.{arith}
 use native.Mathlib.Decide.{decLt, ℕ-discrete}
 use mathlib.Core.Bool.{Bool, true, false}
@@ -41,21 +42,32 @@ module _ (v : ℕ → ℕ → ℕ) (o : ℕ) where
   kids-summed d (binary k f t u) = omega (arith, root-count d (binary k f t u))
   kids-summed d (ternary k f t s e) = omega (arith, root-count d (ternary k f t s e))
 
-  -- No record counts more than 65,535.
-  pub summed-most : o ≤ 65535 → ((d i : ℕ) → v d i ≤ 65535) → (d : ℕ) (t : Term) → summed v o d t ≤ 65535 * size t
+  -- No record counts more than b.
+  pub summed-most : (b : ℕ) → o ≤ b → ((d i : ℕ) → v d i ≤ b) → (d : ℕ) (t : Term) → summed v o d t ≤ b * size t
   unfolding summed size
-  summed-most p q d (leaf number f) = omega arith
-  summed-most p q d (leaf variable f) = omega (arith, q d (f .a))
-  summed-most p q d (unary k f t) = omega (arith, summed-most p q (length (binds₁ k f) + d) t)
-  summed-most p q d (binary k f t u) = omega (arith, summed-most p q d t, summed-most p q d u)
-  summed-most p q d (ternary k f t s e) = omega (arith, summed-most p q d t, summed-most p q (length (binds₃ k f) + d) s, summed-most p q d e)
+  summed-most b p q d (leaf number f) = omega (arith, mul-one b)
+  summed-most b p q d (leaf variable f) = omega (arith, mul-one b, q d (f .a))
+  summed-most b p q d (unary k f t) = omega (arith, mul-one b, mul-add b 1 (size t), summed-most b p q (length (binds₁ k f) + d) t)
+  summed-most b p q d (binary k f t u) =
+      omega (arith, mul-one b, mul-add b 1 (size t), mul-add b (1 + size t) (size u), summed-most b p q d t, summed-most b p q d u)
+  summed-most b p q d (ternary k f t s e) =
+      omega (
+        arith,
+        mul-one b,
+        mul-add b 1 (size t),
+        mul-add b (1 + size t) (size s),
+        mul-add b (1 + size t + size s) (size e),
+        summed-most b p q d t,
+        summed-most b p q (length (binds₃ k f) + d) s,
+        summed-most b p q d e,
+      )
 
 pub gives-most : (m d i : ℕ) → gives m d i ≤ 65535
 gives-most m d i = picked (λ n. n ≤ 65535) (namesRemoved m d i) (λ _. omega arith) (λ _. omega arith)
 
-pub weight-most : (m first second : ℕ) → first ≤ 65535 → second ≤ 65535 → (d i : ℕ) → weight m first second d i ≤ 65535
-weight-most m first second p q d i =
-    picked (λ n. n ≤ 65535) (namesRemoved m d i) (λ _. picked (λ n. n ≤ 65535) (eqb i d) (λ _. p) (λ _. q)) (λ _. omega arith)
+pub weight-most : (m first second b : ℕ) → 1 ≤ b → first ≤ b → second ≤ b → (d i : ℕ) → weight m first second d i ≤ b
+weight-most m first second b o p q d i =
+    picked (λ n. n ≤ b) (namesRemoved m d i) (λ _. picked (λ n. n ≤ b) (eqb i d) (λ _. p) (λ _. q)) (λ _. o)
 
 -- A change that makes of each variable a term of the size that is counted for it.
 abbrev pub Weighs : Change → (ℕ → ℕ → ℕ) → Type 0

@@ -10,7 +10,7 @@ ghost use Rattle.records.specs.View.{recordsIn};
 ghost use Rattle.records.specs.Meant.{recordMeant};
 ghost use Rattle.replacing.specs.Moving.{keptBinders};
 ghost use Rattle.replacing.specs.Reading.{Wrote};
-ghost use Rattle.replacing.specs.Arguments.{madeRecords, madeCount, wrappedCount, HasArgument, Measures, CanPut, Puts};
+ghost use Rattle.replacing.specs.Arguments.{madeRecords, madeCount, HasArgument, Measures, CanPut, Puts};
 ghost use Rattle.replacing.specs.Roots.{Branches, namesRemoved, givesWay, isWrapped, indexed, typedAs, madeRecord, moved, IndexFits};
 ghost use Rattle.replacing.specs.Counting.{CanCount, Counts, CanAdd, Adds, RootAdds, RoomFor, OneMore};
 ghost use Rattle.replacing.specs.Copying.{moves, replaces, CanCopy, Copies, RootCopies};
@@ -221,13 +221,23 @@ pub fn copy_raised(
     }
     let one = copy_raised(w, src + 1, end, n, d + branching.first, wrap, code);
     if children == 1 {
-        return one;
+        return Ends {
+            src: one.src,
+            dst: one.dst,
+        };
     }
     let two = copy_raised(w, one.src, one.dst, n, d + branching.second, wrap, code);
     if children == 2 {
-        return two;
+        return Ends {
+            src: two.src,
+            dst: two.dst,
+        };
     }
-    copy_raised(w, two.src, two.dst, n, d, wrap, code)
+    let three = copy_raised(w, two.src, two.dst, n, d, wrap, code);
+    Ends {
+        src: three.src,
+        dst: three.dst,
+    }
 }
 
 // Writes the records that an argument has before those of its tree; returns the place after them.
@@ -295,17 +305,34 @@ fn add_counts(w: &[u8], sum: Counted, d: u16, m: u16, first: usize, second: usiz
     let children = branching.children;
     let root = count_root(w, sum, d, m, first, second);
     if children == 0 {
-        return root;
+        return Counted {
+            next: root.next,
+            records: root.records,
+            replaced: root.replaced,
+        };
     }
     let one = add_counts(w, root, d + branching.first, m, first, second);
     if children == 1 {
-        return one;
+        return Counted {
+            next: one.next,
+            records: one.records,
+            replaced: one.replaced,
+        };
     }
     let two = add_counts(w, one, d + branching.second, m, first, second);
     if children == 2 {
-        return two;
+        return Counted {
+            next: two.next,
+            records: two.records,
+            replaced: two.replaced,
+        };
     }
-    add_counts(w, two, d, m, first, second)
+    let three = add_counts(w, two, d, m, first, second);
+    Counted {
+        next: three.next,
+        records: three.records,
+        replaced: three.replaced,
+    }
 }
 
 // Counts the tree at src, d binders of its own passed before it, as it will be once m variables have given way: the one of the innermost
@@ -322,21 +349,16 @@ pub fn count_replaced(w: &[u8], src: usize, d: u16, m: u16, first: usize, second
     add_counts(w, none, d, m, first, second)
 }
 
-// The size of the term that an argument describes.
+// The size of the term that an argument describes. Where nothing is wrapped, it is that of the tree and of what is made before it.
 pub fn argument_size(w: &[u8], g: Argument) -> usize
     requires { ⌜ HasArgument (recordsIn (now w)) g ⌝ }
     ensures { λ r. ⌜ Measures (recordsIn (now (w .entry))) g r ⌝ }
 {
-    let form = g.form;
-    let tree = count_replaced(w, g.at, 0, wrapped_count(form), 2, 2);
-    made_count(form) + tree.records
-}
-
-// How many variables of an argument's tree are wrapped.
-fn wrapped_count(form: u16) -> u16
-    ensures { λ r. ⌜ r ≡ wrappedCount (ltb 1 form) ⌝ }
-{
-    if 1 < form { 1 } else { 0 }
+    if 1 < g.form {
+        let tree = count_replaced(w, g.at, 0, 1, 2, 2);
+        return 2 + tree.records;
+    }
+    made_count(g.form) + (terms::skip(w, g.at) - g.at)
 }
 
 // How many records are made before an argument's tree.
@@ -423,11 +445,21 @@ pub fn copy_replaced(
     }
     let one = copy_replaced(w, src + 1, end, d + branching.first, m, first, second);
     if children == 1 {
-        return one;
+        return Ends {
+            src: one.src,
+            dst: one.dst,
+        };
     }
     let two = copy_replaced(w, one.src, one.dst, d + branching.second, m, first, second);
     if children == 2 {
-        return two;
+        return Ends {
+            src: two.src,
+            dst: two.dst,
+        };
     }
-    copy_replaced(w, two.src, two.dst, d, m, first, second)
+    let three = copy_replaced(w, two.src, two.dst, d, m, first, second);
+    Ends {
+        src: three.src,
+        dst: three.dst,
+    }
 }

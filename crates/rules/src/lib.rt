@@ -8,16 +8,23 @@ ghost use Rattle.rules.specs.FieldUses.{uses, useNumber};
 ghost use Rattle.rules.specs.Typing.{levels, standing, firstLevel};
 ghost use Rattle.rules.specs.Steps.{plainKind, stepping};
 
-// How many children a record of this kind has.
+// How many children a record of this kind has, unless it is kind 4.
+fn children_beside_4(kind: u16) -> u16
+    ensures { λ r. ⌜ ((kind ≡ 4 → ⊥) → r ≡ childCount (kindOf kind)) ⌝ }
+{
+    if kind < 9 {
+        if kind < 3 { 0 } else { 1 }
+    } else {
+        if kind < 15 { 3 } else { 0 }
+    }
+}
+
+// How many children a record of this kind has. Every record that is passed over is asked this: the number is chosen, and nothing is jumped over.
 pub fn children(kind: u16) -> u16
     ensures { λ r. ⌜ r ≡ childCount (kindOf kind) ⌝ }
 {
-    match kind {
-        4 => 2,
-        3 | 5..=8 => 1,
-        9..=14 => 3,
-        _ => 0,
-    }
+    let beside = children_beside_4(kind);
+    if kind == 4 { 2 } else { beside }
 }
 
 // Whether a tree may be plain that has a record of this kind.
@@ -80,17 +87,6 @@ pub fn stepping_at_zero(kind: u16) -> u16
     match kind {
         4 => 2,
         5..=7 | 9..=14 => 1,
-        _ => 0,
-    }
-}
-
-// How many of its children it steps at level 1.
-pub fn stepping_at_one(kind: u16) -> u16
-    ensures { λ r. ⌜ r ≡ stepping 1 (kindOf kind) ⌝ }
-{
-    match kind {
-        4 => 2,
-        3 | 5 | 8 => 1,
         _ => 0,
     }
 }

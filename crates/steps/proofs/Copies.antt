@@ -17,7 +17,7 @@ use Rattle.terms.proofs.Trees.{at-within, length-preorder}
 use Rattle.terms.proofs.Puts.{length-puts, puts-other, part-puts}
 use Rattle.planning.specs.declared.Plan.{Plan}
 use Rattle.steps.specs.Making.{Rewriting, Room, CanMake, MadeThere, Makes}
-use Rattle.steps.specs.Copies.{RewrittenBy, CanRewrite, Rewrites}
+use Rattle.steps.specs.Copies.{RewrittenBy, CanRewrite, WrittenThere, Rewrites}
 use Rattle.steps.proofs.Kept.{zoomed-rewriting, rewriting-kept}
 use Rattle.steps.proofs.Pieces.{pieces-long, first-piece, last-piece, pieces-put}
 
@@ -115,13 +115,16 @@ module _ (rs : List Record) (base n p : ℕ) (q : Plan) (dst : ℕ) (t u : Term)
           ∙ part-puts rs dst pre (q .end) (base + n - q .end) (omega arith) (⊎-elim (λ x. inl (omega arith)) (λ x. inr (omega arith)) (h .apart))
           ∙ ap₂ (part rs) i k ∙ last-piece t redex pre suf (h .zoom .before) rs base (h .there)
 
-      all-copied : (rs₃ : List Record) → Moved rs₂ rs₃ (q .end) e (base + n - q .end) → rs₃ ≡ puts rs dst (preorder u)
-      all-copied rs₃ d =
+      copied : (rs₃ : List Record) → Moved rs₂ rs₃ (q .end) e (base + n - q .end) → rs₃ ≡ puts rs dst (preorder u)
+      copied rs₃ d =
           let i : dst + (p - base) ≡ dst + length pre = omega (arith, h .zoom .place) in
           let j : e ≡ dst + length pre + size made = omega (arith, made-there .end) in
           d .is ∙ ap₂ (puts rs₂) j last-kept
           ∙ ap (λ x. puts x (dst + length pre + size made) suf) (made-there .records ∙ ap₂ (λ x k. puts x k (preorder made)) first-put i)
           ∙ pieces-put u made pre suf (h .zoom .after) rs dst
+
+      all-copied : (rs₃ : List Record) → Moved rs₂ rs₃ (q .end) e (base + n - q .end) → WrittenThere rs rs₃ dst (e + (base + n - q .end)) u
+      all-copied rs₃ d = record { records = copied rs₃ d; end = let l = lies in omega (arith, made-there .end) }
 
 -- What the body asks, a law for each.
 module _ (s : List ℕ) (base n p : ℕ) (q : Plan) (dst : ℕ) (h : CanRewrite (recordsIn s) base n p q dst) where
@@ -144,11 +147,17 @@ module _ (s : List ℕ) (base n p : ℕ) (q : Plan) (dst : ℕ) (h : CanRewrite 
     pub rewrite-makes : CanMake rs₁ p q (dst + (p - base))
     rewrite-makes = record { redex = _; contractum = _; rewriting = rewriting-there _ _ _ _ _ _ _ _ (h .can) rs₁ m; room = room-there _ _ _ _ _ _ _ _ (h .can) rs₁ m }
 
-    pub rewrite-last : (rs₂ : List Record) (e : ℕ) → Makes rs₁ rs₂ p q (dst + (p - base)) e → CanMove rs₂ (q .end) e (base + n - q .end)
-    rewrite-last rs₂ e w = last-copied _ _ _ _ _ _ _ _ (h .can) rs₁ m rs₂ e w
+    module _ (rs₂ : List Record) (e : ℕ) (w : Makes rs₁ rs₂ p q (dst + (p - base)) e) where
+      pub rewrite-end-fits : length s < 2 ^ 64 → Fits w64 (e + (base + n - q .end))
+      rewrite-end-fits b =
+          let l = there in
+          omega (arith, made-there _ _ _ _ _ _ _ _ (h .can) rs₁ m rs₂ e w .end, records-length s)
+
+      pub rewrite-last : CanMove rs₂ (q .end) e (base + n - q .end)
+      rewrite-last = last-copied _ _ _ _ _ _ _ _ (h .can) rs₁ m rs₂ e w
 
 pub rewrite-does : (rs rs₁ rs₂ rs₃ : List Record) (base n p : ℕ) (q : Plan) (dst e : ℕ) → Moved rs₂ rs₃ (q .end) e (base + n - q .end) → Makes rs₁ rs₂ p q (dst + (p - base)) e → Moved rs rs₁ base dst (p - base)
-    → Rewrites rs rs₃ base n p q dst
+    → Rewrites rs rs₃ base n p q dst (e + (base + n - q .end))
 rewrite-does rs rs₁ rs₂ rs₃ base n p q dst e d w m = record { does = λ t u h. all-copied rs base n p q dst t u h rs₁ m rs₂ e w rs₃ d }
 
-pub ruleset copying = (rewrite-ends, rewrite-whole-fits, rewrite-place-fits, rewrite-first, rewrite-makes, rewrite-last)
+pub ruleset copying = (rewrite-ends, rewrite-whole-fits, rewrite-place-fits, rewrite-first, rewrite-makes, rewrite-end-fits, rewrite-last)

@@ -65,7 +65,7 @@ module _ (rs : List Record) (p : ℕ) (q : Plan) (dst : ℕ) where
   itself-made f rs′ e k = record { does = λ r r′ h o. k .does r′ (by-itself rs p q r′ (h .planned .made) f .there) }
 
   -- A body with its variables replaced.
-  module _ (r r′ : Term) (h : Rewriting rs p q r r′) (o : Room rs p q dst r′) (n : ℕ) (b : Body rs p q r′ n) where
+  module _ (r r′ : Term) (h : Rewriting rs p q r r′) (o : Room rs p q dst r′) (b : Body rs p q r′) where
     body-reads : Reads (area p q) rs (q .at) 0 (b .body)
     body-reads = inside-reads rs p q r r′ h (q .at) (b .body) (b .inside)
 
@@ -87,10 +87,10 @@ module _ (rs : List Record) (p : ℕ) (q : Plan) (dst : ℕ) where
 
   module _ (f : q .form ≡ 1) where
     pub body-copies : CanMake rs p q dst → CanCopy (replaces (q .m) (q .first) (q .second)) rs (q .at) dst 0
-    body-copies v = can-write (v .redex) (v .contractum) (v .rewriting) (v .room) _ (by-replacing rs p q (v .contractum) (v .rewriting .planned .made) f)
+    body-copies v = can-write (v .redex) (v .contractum) (v .rewriting) (v .room) (by-replacing rs p q (v .contractum) (v .rewriting .planned .made) f)
 
     pub body-made : (rs′ : List Record) (ends : Ends) → Copies (replaces (q .m) (q .first) (q .second)) rs rs′ (q .at) dst 0 ends → Makes rs rs′ p q dst (ends .dst)
-    body-made rs′ ends k = record { does = λ r r′ h o. was-written r r′ h o _ (by-replacing rs p q r′ (h .planned .made) f) rs′ ends k }
+    body-made rs′ ends k = record { does = λ r r′ h o. was-written r r′ h o (by-replacing rs p q r′ (h .planned .made) f) rs′ ends k }
 
   -- An argument alone.
   module _ (z : q .form ≡ 0 → ⊥) (o : q .form ≡ 1 → ⊥) where

@@ -1,25 +1,36 @@
--- Measuring what is made: a law for each thing that the code asks. `measuring` for search.
-use Prim.Native.Nat.{ℕ, _-_, _≤_, _<_}
+-- Whether what is made has room: a law for each thing that the code asks. `measuring` for search.
+use Prim.Native.Nat.{ℕ, _-_, _*_, _≤_, _<_}
+use native.Mathlib.Nat.{mul-comm, mul-le-mul}
 use native.Mathlib.Omega.{arith}
 use native.Mathlib.Decide.{decLt}
 use mathlib.Core.Path.{_≡_, refl, sym, ap, _∙_}
+use mathlib.Core.Bool.{true}
 use mathlib.Core.List.{List}
 use lib.ListN.{getD}
+use lib.Dec.{leb, ltb}
+use borrow.Author.Tests.{lt-ltb, le-ltb, le-leb}
+use mir.Syntax.{w64}
+use mir.Val.{Fits}
+use Rattle.rules.specs.Lists.{pick}
 use Rattle.rules.specs.Terms.{Term, size}
-use Rattle.rules.specs.Indices.{replaced}
+use Rattle.rules.specs.Indices.{replaced, replacing}
 use Rattle.rules.specs.Format.{Record}
+use Rattle.rules.proofs.General.{picked}
+use Rattle.rules.proofs.Laid.{size-some}
 use Rattle.terms.specs.Preorder.{HasTree, Skips}
 use Rattle.replacing.specs.declared.Argument.{Argument}
 use Rattle.replacing.specs.declared.Counted.{Counted}
-use Rattle.replacing.specs.Arguments.{HasArgument, Measures}
-use Rattle.replacing.specs.Counting.{CanCount, Counts}
+use Rattle.replacing.specs.Reading.{Reads}
+use Rattle.replacing.specs.Arguments.{Given, HasArgument, Measures}
+use Rattle.replacing.specs.Counting.{weight, Sizes, CanCount, Counts}
+use Rattle.replacing.proofs.Sums.{summed-most, weight-most, changed-size, replacing-weighs}
 use Rattle.replacing.proofs.Callers.{sizes-given}
 use Rattle.planning.specs.declared.Plan.{Plan}
 use Rattle.planning.specs.Planned.{StandsFor}
-use Rattle.steps.specs.Making.{Rewriting, CanMeasure, replacements, MeasuresMade}
+use Rattle.steps.specs.Making.{Rewriting, CanMeasure, TellsFits}
 use Rattle.steps.specs.MakingParts.{IsSize, CanMeasureBody, MeasuresSecond}
 use Rattle.steps.proofs.MakingArea.{area, inside-reads, argument-describes, arguments-given, argument-small}
-use Rattle.steps.proofs.MakingForms.{Body, by-itself, by-replacing, by-anew, none-replaced}
+use Rattle.steps.proofs.MakingForms.{Body, by-itself, by-replacing, by-anew}
 
 -- The tree at a place.
 module _ (rs : List Record) (i e : ℕ) (k : Skips rs i e) where
@@ -48,7 +59,7 @@ module _ (rs : List Record) (p : ℕ) (q : Plan) where
     abbrev rewriting : Rewriting rs p q redex contractum
     rewriting = v .can .rewriting
 
-    abbrev body-there : Body rs p q contractum (replacements (rewriting .planned .made))
+    abbrev body-there : Body rs p q contractum
     body-there = by-replacing rs p q contractum (rewriting .planned .made) (v .form)
 
     first-stands : StandsFor rs p (q .end) (q .first) (getD (body-there .terms) 0 redex)
@@ -57,6 +68,12 @@ module _ (rs : List Record) (p : ℕ) (q : Plan) where
     second-stands : 1 < q .m → StandsFor rs p (q .end) (q .second) (getD (body-there .terms) 1 redex)
     second-stands l = body-there .arguments .each 1 redex l
 
+    body-reads : Reads (area p q) rs (q .at) 0 (body-there .body)
+    body-reads = inside-reads rs p q redex contractum rewriting (q .at) (body-there .body) (body-there .inside)
+
+    pub body-tree : HasTree rs (q .at)
+    body-tree = record { tree = body-there .body; there = body-there .inside .there }
+
     pub first-there : HasArgument rs (q .first)
     first-there = stands-there redex contractum rewriting (q .first) _ first-stands
 
@@ -64,6 +81,9 @@ module _ (rs : List Record) (p : ℕ) (q : Plan) where
     second-there l = stands-there redex contractum rewriting (q .second) _ (second-stands l)
 
     module _ (n k : ℕ) (first : Measures rs (q .first) n) (second : MeasuresSecond rs q k) where
+      first-small : n ≤ 65535
+      first-small = small-argument redex contractum rewriting (q .first) _ first-stands n first
+
       second-small : k ≤ 65535
       second-small = elim (decLt 1 (q .m)) [
         | yes l ↦ small-argument redex contractum rewriting (q .second) _ (second-stands l) k (second .there l)
@@ -74,27 +94,62 @@ module _ (rs : List Record) (p : ℕ) (q : Plan) where
       body-counts = record {
         area = area p q;
         tree = body-there .body;
-        reads = inside-reads rs p q redex contractum rewriting (q .at) (body-there .body) (body-there .inside);
-        first-small = small-argument redex contractum rewriting (q .first) _ first-stands n first;
+        reads = body-reads;
+        first-small = first-small;
         second-small = second-small;
       }
 
-  module _ (e : q .form ≡ 1) (n k : ℕ) (first : Measures rs (q .first) n) (second : MeasuresSecond rs q k) (c : Counted) (counts : Counts rs (q .at) 0 (q .m) n k c) where
-    counted : (r r′ : Term) (h : Rewriting rs p q r r′) → (c .records ≡ size r′) × (c .replaced ≡ replacements (h .planned .made))
-    unfolding replaced
-    counted r r′ h =
-        let b = by-replacing rs p q r′ (h .planned .made) e in
-        let ts = b .terms in
-        let z = counts .does (area p q) (b .body) (inside-reads rs p q r r′ h (q .at) (b .body) (b .inside)) in
-        let sizes = sizes-given (area p q) rs (q .first) (q .second) (q .m) n k ts (arguments-given rs p q r r′ h ts (b .arguments)) (λ _. first) (second .there) in
-        (z .size-is ts sizes ∙ ap size (sym (b .is)), z .replaced ∙ sym (b .replaces))
+      -- The bound is a number of the machine.
+      pub bound-fits : (k₀ l : ℕ) → IsSize rs (q .at) k₀ → l ≡ pick (ltb n k) k n → Fits w64 (k₀ * l)
+      unfolding area
+      bound-fits k₀ l s e =
+          let few : k₀ ≤ 65535 = omega (arith, s .is (body-there .body) (body-there .inside .there), body-reads .deep) in
+          let most : l ≤ 65535 = rw e (picked (λ x. x ≤ 65535) (ltb n k) (λ _. second-small) (λ _. first-small)) in
+          omega (arith, mul-le-mul few most)
 
-  pub body-measured : CanMeasureBody rs p q → (n k : ℕ) → Measures rs (q .first) n → MeasuresSecond rs q k → (c : Counted) → Counts rs (q .at) 0 (q .m) n k c
-      → MeasuresMade rs p q (record { records = c .records; replaced = c .replaced })
-  body-measured v n k first second c counts = record {
-    records = λ r r′ h. counted (v .form) n k first second c counts r r′ h .0;
-    replaced = λ r r′ h. counted (v .form) n k first second c counts r r′ h .1;
-  }
+  module _ (e : q .form ≡ 1) (n k : ℕ) (first : Measures rs (q .first) n) (second : MeasuresSecond rs q k) (r r′ : Term) (h : Rewriting rs p q r r′) where
+    abbrev body-of : Body rs p q r′
+    body-of = by-replacing rs p q r′ (h .planned .made) e
+
+    given : Given (area p q) rs (q .m) (q .first) (q .second) (body-of .terms)
+    given = arguments-given rs p q r r′ h (body-of .terms) (body-of .arguments)
+
+    sizes : Sizes (q .m) n k (body-of .terms)
+    sizes = sizes-given (area p q) rs (q .first) (q .second) (q .m) n k (body-of .terms) given (λ _. first) (second .there)
+
+    counted : (c : Counted) → Counts rs (q .at) 0 (q .m) n k c → c .records ≡ size r′
+    unfolding replaced
+    counted c counts =
+        let b = body-of in
+        counts .does (area p q) (b .body) (inside-reads rs p q r r′ h (q .at) (b .body) (b .inside)) .size-is (b .terms) sizes ∙ ap size (sym (b .is))
+
+    -- The first argument has a record, and so have the larger of the two.
+    some-first : 1 ≤ n
+    some-first =
+        let a = body-of .arguments in
+        omega (arith, first .is (area p q) _ (given .each 0 r (omega (arith, a .some))), size-some (getD (body-of .terms) 0 r))
+
+    bounded : (k₀ l : ℕ) → IsSize rs (q .at) k₀ → l ≡ pick (ltb n k) k n → size r′ ≤ k₀ * l
+    unfolding replaced
+    bounded k₀ l s f =
+        let b = body-of in
+        let (n≤, k≤) = larger-most l f in
+        let weighs = changed-size (replacing (b .terms)) (weight (q .m) n k) (replacing-weighs (q .m) n k (b .terms) sizes) 0 (b .body) in
+        let most = summed-most (weight (q .m) n k) 1 l (omega (arith, some-first)) (weight-most (q .m) n k l (omega (arith, some-first)) n≤ k≤) 0 (b .body) in
+        omega (arith, ap size (b .is), weighs, most, s .is (b .body) (b .inside .there), mul-comm l (size (b .body)), ap (λ x. x * l) (s .is (b .body) (b .inside .there)))
+      where
+        larger-most : (l : ℕ) → l ≡ pick (ltb n k) k n → (n ≤ l) × (k ≤ l)
+        larger-most l f = elim (decLt n k) [
+          | yes a ↦ let g : l ≡ k = f ∙ ap (λ x. pick x k n) (lt-ltb n k a) in (omega arith, omega arith)
+          | no a ↦ let g : l ≡ n = f ∙ ap (λ x. pick x k n) (le-ltb n k (omega arith)) in (omega arith, omega arith)
+        ]
+
+  module _ (v : CanMeasureBody rs p q) (n k room : ℕ) (first : Measures rs (q .first) n) (second : MeasuresSecond rs q k) where
+    pub bound-has-room : (k₀ l : ℕ) → IsSize rs (q .at) k₀ → l ≡ pick (ltb n k) k n → k₀ * l ≤ room → TellsFits rs p q room true
+    bound-has-room k₀ l s f b = record { is = λ r r′ h. sym (le-leb (size r′) room (omega (arith, bounded (v .form) n k first second r r′ h k₀ l s f))) }
+
+    pub count-has-room : (c : Counted) → Counts rs (q .at) 0 (q .m) n k c → TellsFits rs p q room (leb (c .records) room)
+    count-has-room c counts = record { is = λ r r′ h. ap (λ x. leb x room) (counted (v .form) n k first second r r′ h c counts) }
 
   pub second-measured : (n : ℕ) → 1 < q .m → Measures rs (q .second) n → MeasuresSecond rs q n
   second-measured n l m = record { there = λ _. m; none = λ k. absurd (omega arith) }
@@ -113,16 +168,13 @@ module _ (rs : List Record) (p : ℕ) (q : Plan) where
     pub anew-there : (q .form ≡ 0 → ⊥) → (q .form ≡ 1 → ⊥) → HasArgument rs (q .first)
     anew-there z o = stands-there (v .redex) (v .contractum) (v .rewriting) (q .first) (v .contractum) (by-anew rs p q (v .contractum) (v .rewriting .planned .made) z o)
 
-  pub itself-measured : q .form ≡ 0 → (n : ℕ) → IsSize rs (q .at) n → MeasuresMade rs p q (record { records = n; replaced = 0 })
-  itself-measured e n s = record {
-    records = λ r r′ h. s .is r′ (by-itself rs p q r′ (h .planned .made) e .there);
-    replaced = λ r r′ h. none-replaced rs p q r′ (h .planned .made) (λ o. omega arith);
+  pub itself-has-room : (room : ℕ) → q .form ≡ 0 → (n : ℕ) → IsSize rs (q .at) n → TellsFits rs p q room (leb n room)
+  itself-has-room room e n s = record { is = λ r r′ h. ap (λ x. leb x room) (s .is r′ (by-itself rs p q r′ (h .planned .made) e .there)) }
+
+  pub anew-has-room : (room : ℕ) → (q .form ≡ 0 → ⊥) → (q .form ≡ 1 → ⊥) → (n : ℕ) → Measures rs (q .first) n → TellsFits rs p q room (leb n room)
+  anew-has-room room z o n m = record {
+    is = λ r r′ h. ap (λ x. leb x room) (m .is (area p q) r′ (argument-describes rs p q r r′ h (q .first) r′ (by-anew rs p q r′ (h .planned .made) z o)));
   }
 
-  pub anew-measured : (q .form ≡ 0 → ⊥) → (q .form ≡ 1 → ⊥) → (n : ℕ) → Measures rs (q .first) n → MeasuresMade rs p q (record { records = n; replaced = 0 })
-  anew-measured z o n m = record {
-    records = λ r r′ h. m .is (area p q) r′ (argument-describes rs p q r r′ h (q .first) r′ (by-anew rs p q r′ (h .planned .made) z o));
-    replaced = λ r r′ h. none-replaced rs p q r′ (h .planned .made) o;
-  }
-
-pub ruleset measuring = (skips-up, size-told, first-there, second-there, second-measured, no-second, body-counts, body-measured, itself-there, body-asks, anew-there, itself-measured, anew-measured)
+pub ruleset measuring =
+    (skips-up, size-told, body-tree, first-there, second-there, second-measured, no-second, bound-fits, bound-has-room, body-counts, count-has-room, itself-there, body-asks, anew-there, itself-has-room, anew-has-room)

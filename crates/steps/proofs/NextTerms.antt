@@ -1,11 +1,14 @@
 -- The next term of a term that a state holds, where the search finds its step at p: how many records it has by the plan, and that it can be
 -- written to the other half.
-use Prim.Native.Nat.{ℕ, zero, suc, _+_, _*_, _-_, _≤_}
+use Prim.Native.Nat.{ℕ, zero, suc, _+_, _*_, _-_, _≤_, _<_}
 use native.Mathlib.Omega.{arith}
+use mathlib.Core.Bool.{Bool, true, false}
 use mathlib.Core.List.{List}
 use mathlib.Core.Logic.{_⊎_, inl, inr, ⊎-map}
-use mathlib.Core.Path.{_≡_, refl}
+use mathlib.Core.Path.{_≡_, refl, sym, _∙_}
 use lib.ListN.{length}
+use lib.Dec.{leb}
+use borrow.Author.Tests.{leb-true, leb-false}
 use Rattle.rules.specs.Terms.{Term, size}
 use Rattle.rules.specs.Types.{Table}
 use Rattle.rules.specs.Format.{Record}
@@ -14,9 +17,8 @@ use Rattle.finding.proofs.Stored.{redex-there}
 use Rattle.planning.specs.declared.Plan.{Plan}
 use Rattle.planning.specs.Planned.{Planned}
 use Rattle.planning.specs.Redexes.{CanPlan, Plans}
-use Rattle.steps.specs.declared.making.Made.{Made}
 use Rattle.steps.specs.declared.state.State.{State}
-use Rattle.steps.specs.Making.{Rewriting, CanMeasure, MeasuresMade}
+use Rattle.steps.specs.Making.{Rewriting, CanMeasure, TellsFits}
 use Rattle.steps.specs.Halves.{Holds}
 use Rattle.steps.specs.Copies.{RewrittenBy}
 use Rattle.steps.specs.Stepping.{Becomes, RunsAt}
@@ -91,21 +93,26 @@ module _ (types : Table) (rs : List Record) (s : State) (p : ℕ) (t : Term) (h 
           few = omega (arith, held .few);
         }
 
-    module _ (m : Made) (d : MeasuresMade rs p q m) where
-      pub next-size : s .size - (q .end - p) + m .records ≡ size following
-      next-size = let c = counts in omega (arith, d .records redex made rewriting)
+    -- By whether what is made has room, the next term has.
+    module _ (b : Bool) (d : TellsFits rs p q (2048 - (s .size - (q .end - p))) b) where
+      made-test : b ≡ leb (size made) (2048 - (s .size - (q .end - p)))
+      made-test = d .is redex made rewriting
 
-      pub rewritten-by : (base dst : ℕ) → base ≡ 2048 * s .half → dst ≡ 2048 * (1 - s .half) → m .records ≤ 2048 - (s .size - (q .end - p)) → RewrittenBy rs base (s .size) p q dst t following
-      rewritten-by base dst b e l =
-          let n = next-size in
-          let c = counts in
-          rw (b, e) (record {
-            types = types;
-            there = held .there;
-            long = held .long;
-            few = held .few;
-            zoom = next-at .zoom;
-            planned = planned;
-            room = omega (arith, held .half, held .room);
-            apart = ⊎-map (λ z. omega (arith, held .few)) (λ z. omega arith) (one-of-two (s .half) (held .half));
-          })
+      pub next-large : b ≡ false → 2048 < size following
+      next-large e = let c = counts in omega (arith, leb-false (size made) _ (sym made-test ∙ e))
+
+      pub next-small : b ≡ true → size following ≤ 2048
+      next-small e = let c = counts in omega (arith, leb-true (size made) _ (sym made-test ∙ e))
+
+    pub rewritten-by : (base dst : ℕ) → base ≡ 2048 * s .half → dst ≡ 2048 * (1 - s .half) → size following ≤ 2048 → RewrittenBy rs base (s .size) p q dst t following
+    rewritten-by base dst b e l =
+        rw (b, e) (record {
+          types = types;
+          there = held .there;
+          long = held .long;
+          few = held .few;
+          zoom = next-at .zoom;
+          planned = planned;
+          room = omega (arith, held .half, held .room);
+          apart = ⊎-map (λ z. omega (arith, held .few)) (λ z. omega arith) (one-of-two (s .half) (held .half));
+        })

@@ -1,10 +1,12 @@
 -- `State::step` and `State::step_at`: a law for each thing that their bodies ask. `stepping` for search.
 use Prim.Native.Nat.{ℕ, _+_, _*_, _-_, _≤_, _<_}
 use native.Mathlib.Omega.{arith}
+use mathlib.Core.Bool.{Bool, true, false, not}
 use mathlib.Core.List.{List}
 use mathlib.Core.Path.{_≡_, refl, sym, ap, subst, _∙_}
 use lib.ListN.{length}
-use mir.Syntax.{w32}
+use borrow.Author.Tests.{not-true, not-false}
+use mir.Syntax.{w16, w32}
 use mir.Val.{Fits}
 use Rattle.rules.specs.Terms.{Term, size}
 use Rattle.rules.specs.Types.{Table}
@@ -17,13 +19,12 @@ use Rattle.finding.specs.Finding.{find, Finds}
 use Rattle.finding.proofs.Next.{found-value}
 use Rattle.planning.specs.declared.Plan.{Plan}
 use Rattle.planning.specs.Redexes.{CanPlan, Plans}
-use Rattle.steps.specs.declared.making.Made.{Made}
 use Rattle.steps.specs.declared.state.State.{State}
-use Rattle.steps.specs.Making.{CanMeasure, MeasuresMade}
+use Rattle.steps.specs.Making.{CanMeasure, TellsFits}
 use Rattle.steps.specs.Halves.{Holds}
-use Rattle.steps.specs.Copies.{CanRewrite, Rewrites}
+use Rattle.steps.specs.Copies.{RewrittenBy, CanRewrite, WrittenThere, Rewrites}
 use Rattle.steps.specs.Stepping.{Runs, CanStep, Stays, Moves, After, running, valued, full, Stepped, RunsAt, CanStepAt, SteppedAt}
-use Rattle.steps.proofs.NextTerms.{following, becomes, redex-plans, plan-measures, Counts, counts, next-size, rewritten-by}
+use Rattle.steps.proofs.NextTerms.{following, becomes, redex-plans, plan-measures, Counts, counts, next-large, next-small, rewritten-by}
 
 -- The state s with another status.
 abbrev withStatus : State → ℕ → State
@@ -75,28 +76,40 @@ module _ (types : Table) (rs : List Record) (s : State) (p : ℕ) (h : CanStepAt
     pub step-inside : q .end - p ≤ s .size
     step-inside = let c = pieces in omega arith
 
-    module _ (m : Made) (d : MeasuresMade rs p q m) where
-      pub step-full : 2048 - (s .size - (q .end - p)) < m .records → SteppedAt types rs rs s (withStatus s 2) p
-      step-full l = record {
+    module _ (b : Bool) (d : TellsFits rs p q (2048 - (s .size - (q .end - p))) b) where
+      pub step-full : not b ≡ true → SteppedAt types rs rs s (withStatus s 2) p
+      step-full e = record {
         does = λ t k.
-            full (following types rs s p t k) (becomes types rs s p t k) (omega (arith, next-size types rs s p t k q plans m d)) (stays rs s 2 t (k .runs .holds));
+            full (following types rs s p t k) (becomes types rs s p t k) (next-large types rs s p t k q plans b d (not-true b e)) (stays rs s 2 t (k .runs .holds));
       }
 
-      module _ (l : m .records ≤ 2048 - (s .size - (q .end - p))) (base dst : ℕ) (b : base ≡ 2048 * s .half) (e : dst ≡ 2048 * (1 - s .half)) where
-        pub step-rewrites : CanRewrite rs base (s .size) p q dst
-        step-rewrites = record { term = h .term; after = _; can = rewritten-by types rs s p (h .term) (h .runs) q plans m d base dst b e l }
+      module _ (l : not b ≡ false) (base dst : ℕ) (g : base ≡ 2048 * s .half) (e : dst ≡ 2048 * (1 - s .half)) where
+        rewritten : (t : Term) (k : RunsAt types rs s p t) → RewrittenBy rs base (s .size) p q dst t (following types rs s p t k)
+        rewritten t k = rewritten-by types rs s p t k q plans base dst g e (next-small types rs s p t k q plans b d (not-false b l))
 
-        pub step-moves : (rs′ : List Record) → Rewrites rs rs′ base (s .size) p q dst → SteppedAt types rs rs′ s (moved s (s .size - (q .end - p) + m .records)) p
-        step-moves rs′ w = record {
-          does = λ t k.
-              let u = following types rs s p t k in
-              let n = next-size types rs s p t k q plans m d in
-              let c = counts types rs s p t k q plans in
-              let few : size u ≤ 2048 = omega arith in
-              let put : rs′ ≡ puts rs (2048 * (1 - s .half)) (preorder u) = w .does t u (rewritten-by types rs s p t k q plans m d base dst b e l) ∙ ap (λ i. puts rs i (preorder u)) e in
-              subst (After types rs rs′ s (moved s (s .size - (q .end - p) + m .records)) t) (sym (h .running))
-              (running u (becomes types rs s p t k) few (moves rs rs′ s _ t u (k .runs .holds) few n put));
-        }
+        pub step-rewrites : CanRewrite rs base (s .size) p q dst
+        step-rewrites = record { term = h .term; after = _; can = rewritten (h .term) (h .runs) }
+
+        module _ (rs′ : List Record) (o : ℕ) (w : Rewrites rs rs′ base (s .size) p q dst o) where
+          written : (t : Term) (k : RunsAt types rs s p t) → WrittenThere rs rs′ dst o (following types rs s p t k)
+          written t k = w .does t (following types rs s p t k) (rewritten t k)
+
+          pub step-start : dst ≤ o
+          step-start = omega (arith, written (h .term) (h .runs) .end)
+
+          pub step-size-fits : Fits w16 (o - dst)
+          step-size-fits = omega (arith, written (h .term) (h .runs) .end, next-small types rs s p (h .term) (h .runs) q plans b d (not-false b l))
+
+          pub step-moves : SteppedAt types rs rs′ s (moved s (o - dst)) p
+          step-moves = record {
+            does = λ t k.
+                let u = following types rs s p t k in
+                let few : size u ≤ 2048 = next-small types rs s p t k q plans b d (not-false b l) in
+                let n : o - dst ≡ size u = omega (arith, written t k .end) in
+                let put : rs′ ≡ puts rs (2048 * (1 - s .half)) (preorder u) = written t k .records ∙ ap (λ i. puts rs i (preorder u)) e in
+                subst (After types rs rs′ s (moved s (o - dst)) t) (sym (h .running))
+                (running u (becomes types rs s p t k) few (moves rs rs′ s (o - dst) t u (k .runs .holds) few n put));
+          }
 
 -- `step`.
 module _ (types : Table) (rs : List Record) (s : State) (h : CanStep types rs s) (base : ℕ) (b : base ≡ 2048 * s .half) where
@@ -120,4 +133,4 @@ module _ (types : Table) (rs : List Record) (s : State) (h : CanStep types rs s)
       pub step-made : (rs′ : List Record) (r : State) → SteppedAt types rs rs′ s r p → Stepped types rs rs′ s r
       step-made rs′ r w = record { does = λ t k. w .does t (runs-at t k) }
 
-pub ruleset stepping = (step-half, step-counts, step-plans, step-measures, step-end, step-inside, step-full, step-searches, step-ends, step-found, step-made)
+pub ruleset stepping = (step-half, step-counts, step-plans, step-measures, step-end, step-inside, step-full, step-start, step-size-fits, step-searches, step-ends, step-found, step-made)

@@ -28,6 +28,10 @@ pub record CanRewrite (rs : List Record) (base n p : ℕ) (q : Plan) (dst : ℕ)
   pub after : Term
   pub can : RewrittenBy rs base n p q dst term after
 
--- rs′ is rs with u written to dst.
-pub record Rewrites (rs rs′ : List Record) (base n p : ℕ) (q : Plan) (dst : ℕ) : Type 0 where
-  pub does : (t u : Term) → RewrittenBy rs base n p q dst t u → rs′ ≡ puts rs dst (preorder u)
+-- rs′ is rs with u written to dst, and e is the place after it.
+pub record WrittenThere (rs rs′ : List Record) (dst e : ℕ) (u : Term) : Type 0 where
+  pub records : rs′ ≡ puts rs dst (preorder u)
+  pub end : e ≡ dst + size u
+
+pub record Rewrites (rs rs′ : List Record) (base n p : ℕ) (q : Plan) (dst e : ℕ) : Type 0 where
+  pub does : (t u : Term) → RewrittenBy rs base n p q dst t u → WrittenThere rs rs′ dst e u

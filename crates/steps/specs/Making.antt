@@ -1,8 +1,10 @@
--- The contractum of a planned rewriting: its size, and writing it.
+-- The contractum of a planned rewriting: whether it has room, and writing it.
 use Prim.Native.Nat.{ℕ, _+_, _*_, _≤_}
+use mathlib.Core.Bool.{Bool}
 use mathlib.Core.List.{List}
 use mathlib.Core.Logic.{_⊎_}
 use mathlib.Core.Path.{_≡_}
+use lib.Dec.{leb}
 use lib.ListN.{length}
 use Rattle.rules.specs.Terms.{Term, size}
 use Rattle.rules.specs.Types.{Table}
@@ -10,9 +12,7 @@ use Rattle.rules.specs.Typing.{Env, Typed}
 use Rattle.rules.specs.Format.{Record}
 use Rattle.terms.specs.Preorder.{preorder, At, puts}
 use Rattle.planning.specs.declared.Plan.{Plan}
-use Rattle.planning.specs.Planned.{Planned, Made as MadeBy, itself, replacing, anew}
-use Rattle.replacing.specs.Counting.{gaveWay}
-use Rattle.steps.specs.declared.making.Made.{Made}
+use Rattle.planning.specs.Planned.{Planned}
 
 -- The redex r stands at p, keeps its rules under few binders, and the plan says that it is rewritten to r′.
 pub record Rewriting (rs : List Record) (p : ℕ) (q : Plan) (r r′ : Term) : Type 0 where
@@ -29,16 +29,9 @@ pub record CanMeasure (rs : List Record) (p : ℕ) (q : Plan) : Type 0 where
   pub contractum : Term
   pub rewriting : Rewriting rs p q redex contractum
 
--- How many variable records of the body give way to an argument: none where no body is copied.
-unfoldable pub replacements : {rs : List Record} {p : ℕ} {q : Plan} {r′ : Term} {n : ℕ} → MadeBy rs p q r′ n → ℕ
-replacements (itself i) = 0
-replacements {rs} {p} {q} (replacing body ts i given e) = gaveWay (q .m) 0 body
-replacements (anew s) = 0
-
--- m counts the records of what is made, and the variable records that give way.
-pub record MeasuresMade (rs : List Record) (p : ℕ) (q : Plan) (m : Made) : Type 0 where
-  pub records : (r r′ : Term) → Rewriting rs p q r r′ → m .records ≡ size r′
-  pub replaced : (r r′ : Term) (h : Rewriting rs p q r r′) → m .replaced ≡ replacements (h .planned .made)
+-- b is whether what is made has at most `room` records.
+pub record TellsFits (rs : List Record) (p : ℕ) (q : Plan) (room : ℕ) (b : Bool) : Type 0 where
+  pub is : (r r′ : Term) → Rewriting rs p q r r′ → b ≡ leb (size r′) room
 
 -- There is room for what is made from dst on, outside of the redex.
 pub record Room (rs : List Record) (p : ℕ) (q : Plan) (dst : ℕ) (r′ : Term) : Type 0 where

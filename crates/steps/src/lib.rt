@@ -1,5 +1,5 @@
 // A run's state, and the step that it makes.
-mod making; // what a planned rewriting makes: its size, and writing it
+mod making; // what a planned rewriting makes: whether it has room, and writing it
 mod state; // the state and its step
 
 pub use state::State;

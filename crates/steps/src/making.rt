@@ -1,15 +1,12 @@
-// What a redex is rewritten to, as its plan says: how many records that has, and writing them.
+// What a redex is rewritten to, as its plan says: whether it has room, and writing it.
+ghost use mathlib.Core.Path.{_≡_};
+ghost use lib.Dec.{ltb};
+ghost use Rattle.rules.specs.Lists.{pick};
 ghost use Rattle.records.specs.View.{recordsIn};
 ghost use Rattle.terms.specs.Preorder.{HasTree};
-ghost use Rattle.steps.specs.Making.{CanMeasure, MeasuresMade, CanMake, Makes};
+ghost use Rattle.steps.specs.Making.{CanMeasure, TellsFits, CanMake, Makes};
 ghost use Rattle.steps.specs.MakingParts.{IsSize, CanMeasureBody, MeasuresSecond, CanCopyTree, CopiesTree};
 use planning::Plan;
-
-// How many records are made, and how many variable records of the body give way to an argument.
-pub struct Made {
-    pub records: usize,
-    pub replaced: usize,
-}
 
 // The size of the tree at `i`.
 fn tree_size(w: &[u8], i: usize) -> usize
@@ -31,36 +28,39 @@ fn second_size(w: &[u8], p: usize, plan: Plan) -> usize
     }
 }
 
-// The size of the body with its variables replaced.
-fn body_size(w: &[u8], p: usize, plan: Plan) -> Made
+// The larger of two numbers.
+fn larger(x: usize, y: usize) -> usize
+    ensures { λ r. ⌜ r ≡ pick (ltb x y) y x ⌝ }
+{
+    if x < y { y } else { x }
+}
+
+// Whether the body with its variables replaced has at most `room` records. No record of the body makes more than the larger argument has:
+// where there is room for so many, none is counted.
+fn body_fits(w: &[u8], p: usize, plan: Plan, room: usize) -> bool
     requires { ⌜ CanMeasureBody (recordsIn (now w)) p plan ⌝ }
-    ensures { λ m. ⌜ MeasuresMade (recordsIn (now (w .entry))) p plan m ⌝ }
+    ensures { λ r. ⌜ TellsFits (recordsIn (now (w .entry))) p plan room r ⌝ }
 {
     let first = replacing::argument_size(w, plan.first);
     let second = second_size(w, p, plan);
-    let body = replacing::count_replaced(w, plan.at, 0, plan.m, first, second);
-    Made {
-        records: body.records,
-        replaced: body.replaced,
+    let records = tree_size(w, plan.at);
+    if records * larger(first, second) <= room {
+        return true;
     }
+    let body = replacing::count_replaced(w, plan.at, 0, plan.m, first, second);
+    body.records <= room
 }
 
-// How many records are made, by the plan's form.
-pub fn made_size(w: &[u8], p: usize, plan: Plan) -> Made
+// Whether what is made has at most `room` records, by the plan's form.
+pub fn made_fits(w: &[u8], p: usize, plan: Plan, room: usize) -> bool
     requires { ⌜ CanMeasure (recordsIn (now w)) p plan ⌝ }
-    ensures { λ m. ⌜ MeasuresMade (recordsIn (now (w .entry))) p plan m ⌝ }
+    ensures { λ r. ⌜ TellsFits (recordsIn (now (w .entry))) p plan room r ⌝ }
 {
     let form = plan.form;
     match form {
-        0 => Made {
-            records: tree_size(w, plan.at),
-            replaced: 0,
-        },
-        1 => body_size(w, p, plan),
-        _ => Made {
-            records: replacing::argument_size(w, plan.first),
-            replaced: 0,
-        },
+        0 => tree_size(w, plan.at) <= room,
+        1 => body_fits(w, p, plan, room),
+        _ => replacing::argument_size(w, plan.first) <= room,
     }
 }
 

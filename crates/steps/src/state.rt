@@ -1,6 +1,6 @@
 // A run's state by value, and its step. The term lies in one half of the work buffer, 2 x 2,048 slots; a step writes the next term to the
 // other half, so that nothing has to be undone where there is no room for it.
-use crate::making::made_size;
+use crate::making::made_fits;
 use crate::making::write_made;
 use finding::Found;
 use planning::Plan;
@@ -30,16 +30,18 @@ fn first_slot(half: u16) -> usize
 }
 
 // Writes what the plan of the record at `p` makes of the term of `size` records at `base` to `dst`: the records before the rewritten tree,
-// those that are made, and the records after it.
-fn rewrite(work: &mut [u8], base: usize, size: usize, p: usize, plan: Plan, dst: usize)
+// those that are made, and the records after it. Returns the place after all.
+fn rewrite(work: &mut [u8], base: usize, size: usize, p: usize, plan: Plan, dst: usize) -> usize
     requires { ⌜ CanRewrite (recordsIn (now work)) base size p plan dst ⌝ }
-    ensures { λ _. ⌜ Rewrites (recordsIn (now (work .entry))) (recordsIn (now (work .exit))) base size p plan dst ⌝ }
+    ensures { λ r. ⌜ Rewrites (recordsIn (now (work .entry))) (recordsIn (now (work .exit))) base size p plan dst r ⌝ }
 {
     let before = p - base;
     let end = plan.end;
     terms::copy_flat(work, base, dst, before);
     let at = write_made(work, p, plan, dst + before);
-    terms::copy_flat(work, end, at, base + size - end);
+    let after = base + size - end;
+    terms::copy_flat(work, end, at, after);
+    at + after
 }
 
 impl State {
@@ -64,17 +66,17 @@ impl State {
     {
         let size = self.size as usize;
         let plan = planning::plan_at(table, work, p);
-        let made = made_size(work, p, plan);
         let kept = size - (plan.end - p);
-        if 2048 - kept < made.records {
+        if !made_fits(work, p, plan, 2048 - kept) {
             self.status = 2;
             return self;
         }
         let base = first_slot(self.half);
         let other = 1 - self.half;
-        rewrite(work, base, size, p, plan, first_slot(other));
+        let start = first_slot(other);
+        let end = rewrite(work, base, size, p, plan, start);
         self.half = other;
-        self.size = (kept + made.records) as u16;
+        self.size = (end - start) as u16;
         self.steps += 1;
         self
     }

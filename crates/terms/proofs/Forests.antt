@@ -39,6 +39,10 @@ module _ (rs : List Record) (i p : ℕ) (t : Term) (ts : List Term) (f : Forest 
         all-append rs (i + 1) (kids t) ts (kids-at rs i t forest-first) (rw e at (f .there .1));
   }
 
+  pub forest-rest : Forest rs (i + size t) (p - 1) ts
+  unfolding AtAll
+  forest-rest = record { count = omega (arith, f .count); there = f .there .1 }
+
 -- p trees from i on, of which Q holds. It is taken apart at the end, where p is 0, and at the first of the trees.
 pub record Left (rs : List Record) (i p : ℕ) (Q : List Term → Type 0) : Type 0 where
   pub trees : List Term

@@ -1,63 +1,147 @@
--- `copy_flat`: the laws of its loop, which copies a record a turn. `moving` for search.
-use Prim.Native.Nat.{ℕ, _+_, _^_, _≤_, _<_}
+-- `copy_flat`: the laws of its loop, which copies a byte a turn, and what the bytes are as records then. `moving` for search.
+use Prim.Native.Nat.{ℕ, _+_, _-_, _*_, _/_, _^_, _≤_, _<_}
 use native.Mathlib.Omega.{arith}
-use mathlib.Core.Path.{_≡_, refl, ap, _∙_}
-use mathlib.Core.Logic.{⊎-elim, inl, inr}
-use mathlib.Core.List.{List, [], _∷_}
-use lib.ListN.{length, getD}
+use native.Mathlib.Decide.{decLt}
+use mathlib.Core.Path.{_≡_, refl, sym, ap, _∙_}
+use mathlib.Core.Logic.{⊎-elim, _⊎_, inl, inr}
+use mathlib.Core.List.{List}
+use lib.ListN.{length, getD, set, take, drop, length-set, length-drop}
+use lib.Seq.{length-take-le, getD-set-same, getD-set-other, getD-take, getD-drop, ext-getD}
 use mir.Syntax.{w64}
 use mir.Val.{Fits}
-use Rattle.rules.specs.Format.{Record, noRecord}
-use Rattle.records.specs.View.{recordsIn, RecordPut}
-use Rattle.records.proofs.Records.{records-length}
+use Rattle.rules.specs.Format.{recordOf, noRecord}
+use Rattle.records.specs.View.{recordsIn}
+use Rattle.records.proofs.Fields.{record-form}
+use Rattle.records.proofs.Records.{records-length, records-read, records-room}
 use Rattle.terms.specs.Preorder.{puts, part}
 use Rattle.terms.specs.Moves.{CanMove, Moved}
-use Rattle.terms.proofs.Puts.{length-puts, puts-append, puts-other, length-part, part-add, part-cons}
+use Rattle.terms.proofs.Puts.{length-puts, puts-same, puts-other, length-part}
 
--- After i records.
-pub record Moving (rs rs′ : List Record) (src dst n i : ℕ) : Type 0 where
-  pub done : rs′ ≡ puts rs dst (part rs src i)
-  pub within : i ≤ n
+-- After i bytes from src on are copied to dst.
+pub record Copying (s s′ : List ℕ) (src dst i : ℕ) : Type 0 where
+  pub same : length s′ ≡ length s
+  pub there : (j : ℕ) → j < i → getD s′ (dst + j) 0 ≡ getD s (src + j) 0
+  pub others : (j : ℕ) → (j < dst) ⊎ (dst + i ≤ j) → getD s′ j 0 ≡ getD s j 0
 
-pub move-starts : (rs : List Record) (src dst n : ℕ) → Moving rs rs src dst n 0
-unfolding puts
-move-starts rs src dst n = record { done = refl; within = omega arith }
+copy-starts : (s : List ℕ) (src dst : ℕ) → Copying s s src dst 0
+copy-starts s src dst = record { same = refl; there = λ j l. absurd (omega arith); others = λ j h. refl }
 
-module _ (rs : List Record) (s : List ℕ) (src dst n i : ℕ) (h : CanMove rs src dst n) (m : Moving rs (recordsIn s) src dst n i) (l : i < n) where
-  move-length : length (recordsIn s) ≡ length rs
-  move-length = ap length (m .done) ∙ length-puts rs dst (part rs src i)
+-- One byte more: what is read is still what stood there first.
+copy-goes-on : (s s′ : List ℕ) (src dst i : ℕ) → (src + i < dst) ⊎ (dst + i ≤ src + i) → dst + i < length s → Copying s s′ src dst i
+    → Copying s (set s′ (dst + i) (getD s′ (src + i) 0)) src dst (i + 1)
+copy-goes-on s s′ src dst i apart room h =
+    let x = getD s′ (src + i) 0 in
+    let e : x ≡ getD s (src + i) 0 = h .others (src + i) apart in
+    let l : length s′ ≡ length s = h .same in
+    let at : (j : ℕ) → j < i + 1 → Dec (j < i) → getD (set s′ (dst + i) x) (dst + j) 0 ≡ getD s (src + j) 0 = λ j b d. elim d [
+      | yes p ↦ getD-set-other s′ (dst + i) (dst + j) x 0 (λ q. omega arith) ∙ h .there j p
+      | no p ↦ let q : j ≡ i = omega arith in rw q (getD-set-same s′ (dst + i) x 0 (omega arith) ∙ e)
+    ] in
+    record {
+      same = length-set s′ (dst + i) x ∙ l;
+      there = λ j b. at j b (decLt j i);
+      others = λ j b.
+          getD-set-other s′ (dst + i) j x 0 (⊎-elim (λ p q. omega arith) (λ p q. omega arith) b)
+          ∙ h .others j (⊎-elim (λ p. inl p) (λ p. inr (omega arith)) b);
+    }
 
-  move-count : length (part rs src i) ≡ i
-  move-count = length-part rs src i (omega (arith, h .from))
+-- A record is read from its 16 bytes alone.
+read-alike : (s s′ : List ℕ) (x y : ℕ) → x + 16 ≤ length s → y + 16 ≤ length s′ → ((k : ℕ) → k < 16 → getD s (x + k) 0 ≡ getD s′ (y + k) 0)
+    → recordOf (drop x s) ≡ recordOf (drop y s′)
+read-alike s s′ x y p q h =
+    let l : length (take 16 (drop x s)) ≡ 16 = length-take-le 16 (drop x s) (omega (arith, length-drop x s)) in
+    let m : length (take 16 (drop y s′)) ≡ 16 = length-take-le 16 (drop y s′) (omega (arith, length-drop y s′)) in
+    let e : take 16 (drop x s) ≡ take 16 (drop y s′) = ext-getD 0 _ _ (l ∙ sym m)
+    (λ k b. getD-take 16 (drop x s) k 0 (omega arith) ∙ getD-drop x s k 0 ∙ h k (omega arith)
+    ∙ sym (getD-take 16 (drop y s′) k 0 (omega arith) ∙ getD-drop y s′ k 0)) in
+    sym (record-form .front (drop x s)) ∙ ap recordOf e ∙ record-form .front (drop y s′)
 
-  pub move-reads : src + i < length (recordsIn s)
-  move-reads = omega (arith, move-length, h .from)
+module _ (s : List ℕ) (src dst n : ℕ) (h : CanMove (recordsIn s) src dst n) where
+  -- Both parts, in bytes.
+  from-bytes : 16 * src + 16 * n ≤ length s
+  from-bytes = omega (arith, h .from, records-length s)
 
-  pub move-writes : dst + i < length (recordsIn s)
-  move-writes = omega (arith, move-length, h .to)
+  to-bytes : 16 * dst + 16 * n ≤ length s
+  to-bytes = omega (arith, h .to, records-length s)
 
-  -- What is read is still what stood there first, as the parts are apart.
-  move-keeps : getD (recordsIn s) (src + i) noRecord ≡ getD rs (src + i) noRecord
-  move-keeps = ap (λ x. getD x (src + i) noRecord) (m .done)
-      ∙ puts-other rs dst (part rs src i) (src + i) (⊎-elim (λ x. inl (omega arith)) (λ x. inr (omega (arith, move-count))) (h .apart))
+  pub move-starts : Copying s s (16 * src) (16 * dst) 0
+  move-starts = copy-starts s (16 * src) (16 * dst)
 
-  pub move-goes-on : (r : Record) (s′ : List ℕ) → r ≡ getD (recordsIn s) (src + i) noRecord → RecordPut s (dst + i) r s′ → Moving rs (recordsIn s′) src dst n (i + 1)
-  unfolding puts
-  move-goes-on r s′ e p =
-      let g : r ≡ getD rs (src + i) noRecord = e ∙ move-keeps in
-      record {
-        done = p .things ∙ (rw (g, m .done, part-add rs src i 1, part-cons rs (src + i) 0 (omega (arith, h .from)), puts-append rs dst (part rs src i) (getD rs (src + i) noRecord ∷ []), move-count));
-        within = omega arith;
-      }
+  module _ (s′ : List ℕ) (i : ℕ) (m : Copying s s′ (16 * src) (16 * dst) i) where
+    pub move-reads : i < 16 * n → 16 * src + i < length s′
+    move-reads l = omega (arith, m .same, from-bytes)
 
-pub move-ends : (rs rs′ : List Record) (src dst n i : ℕ) → Moving rs rs′ src dst n i → n ≤ i → Moved rs rs′ src dst n
-move-ends rs rs′ src dst n i m l = let e : i ≡ n = omega (arith, m .within) in record { is = rw (← e) (m .done) }
+    pub move-writes : i < 16 * n → 16 * dst + i < length s′
+    move-writes l = omega (arith, m .same, to-bytes)
 
-module _ (s : List ℕ) (src dst n i : ℕ) (h : CanMove (recordsIn s) src dst n) (l : i < n) (b : length s < 2 ^ 64) where
-  pub move-read-fits : Fits w64 (src + i)
-  move-read-fits = omega (arith, h .from, records-length s)
+    pub move-goes-on : i < 16 * n → Copying s (set s′ (16 * dst + i) (getD s′ (16 * src + i) 0)) (16 * src) (16 * dst) (i + 1)
+    move-goes-on l = copy-goes-on s s′ (16 * src) (16 * dst) i (⊎-elim (λ p. inl (omega arith)) (λ p. inr (omega arith)) (h .apart)) (omega (arith, to-bytes)) m
 
-  pub move-write-fits : Fits w64 (dst + i)
-  move-write-fits = omega (arith, h .to, records-length s)
+  module _ (s′ : List ℕ) (m : Copying s s′ (16 * src) (16 * dst) (16 * n)) where
+    count : length (part (recordsIn s) src n) ≡ n
+    count = length-part (recordsIn s) src n (h .from)
 
-pub ruleset moving = (move-starts, move-reads, move-writes, move-read-fits, move-write-fits, move-goes-on, move-ends)
+    many : length (recordsIn s′) ≡ length (recordsIn s)
+    many = records-length s′ ∙ ap (λ k. k / 16) (m .same) ∙ sym (records-length s)
+
+    -- Record j of what is copied, and of the others.
+    copied-there : (j : ℕ) → j < n → getD (recordsIn s′) (dst + j) noRecord ≡ getD (recordsIn s) (src + j) noRecord
+    copied-there j l =
+        let a : dst + j < length (recordsIn s′) = omega (arith, many, h .to) in
+        let b : src + j < length (recordsIn s) = omega (arith, h .from) in
+        records-read s′ (dst + j) a
+        ∙ read-alike s′ s (16 * (dst + j)) (16 * (src + j)) (records-room s′ (dst + j) a) (records-room s (src + j) b)
+        (λ k c. ap (λ x. getD s′ x 0) (shifted dst j k) ∙ m .there (16 * j + k) (omega arith) ∙ ap (λ x. getD s x 0) (sym (shifted src j k)))
+        ∙ sym (records-read s (src + j) b)
+      where
+        shifted : (a j k : ℕ) → 16 * (a + j) + k ≡ 16 * a + (16 * j + k)
+        shifted a j k = omega arith
+
+    others-there : (j : ℕ) → j < length (recordsIn s) → (j < dst) ⊎ (dst + n ≤ j) → getD (recordsIn s′) j noRecord ≡ getD (recordsIn s) j noRecord
+    others-there j l b =
+        let a : j < length (recordsIn s′) = omega (arith, many) in
+        records-read s′ j a
+        ∙ read-alike s′ s (16 * j) (16 * j) (records-room s′ j a) (records-room s j l) (λ k c. m .others (16 * j + k) (⊎-elim (λ p. inl (omega arith)) (λ p. inr (omega arith)) b))
+        ∙ sym (records-read s j l)
+
+    each : (j : ℕ) → j < length (recordsIn s) → Dec (j < dst) → Dec (j < dst + n) → getD (recordsIn s′) j noRecord ≡ getD (puts (recordsIn s) dst (part (recordsIn s) src n)) j noRecord
+    each j l (yes p) d = others-there j l (inl p) ∙ sym (puts-other (recordsIn s) dst (part (recordsIn s) src n) j (inl p))
+    each j l (no p) (no q) = others-there j l (inr (omega arith)) ∙ sym (puts-other (recordsIn s) dst (part (recordsIn s) src n) j (inr (omega (arith, count))))
+    each j l (no p) (yes q) =
+        let e : dst + (j - dst) ≡ j = omega arith in
+        let k = j - dst in
+        ap (λ x. getD (recordsIn s′) x noRecord) (sym e)
+        ∙ copied-there k (omega arith)
+        ∙ sym (getD-take n (drop src (recordsIn s)) k noRecord (omega arith) ∙ getD-drop src (recordsIn s) k noRecord)
+        ∙ sym (puts-same (recordsIn s) dst (part (recordsIn s) src n) k (omega (arith, count)) (omega (arith, count, h .to)))
+        ∙ ap (λ x. getD (puts (recordsIn s) dst (part (recordsIn s) src n)) x noRecord) e
+
+    all-moved : Moved (recordsIn s) (recordsIn s′) src dst n
+    all-moved = record {
+      is = ext-getD noRecord _ _ (many ∙ sym (length-puts (recordsIn s) dst (part (recordsIn s) src n)))
+          (λ j l. each j (omega (arith, many)) (decLt j dst) (decLt j (dst + n)));
+    }
+
+  pub move-ends : (s′ : List ℕ) (i : ℕ) → Copying s s′ (16 * src) (16 * dst) i → i ≤ 16 * n → 16 * n ≤ i → Moved (recordsIn s) (recordsIn s′) src dst n
+  move-ends s′ i m a b = let e : i ≡ 16 * n = omega arith in all-moved s′ (rw e at m)
+
+  pub move-from-fits : length s < 2 ^ 64 → Fits w64 (16 * src)
+  move-from-fits b = omega (arith, from-bytes)
+
+  pub move-to-fits : length s < 2 ^ 64 → Fits w64 (16 * dst)
+  move-to-fits b = omega (arith, to-bytes)
+
+  pub move-count-fits : length s < 2 ^ 64 → Fits w64 (16 * n)
+  move-count-fits b = omega (arith, to-bytes)
+
+  pub move-read-fits : (i : ℕ) → i < 16 * n → length s < 2 ^ 64 → Fits w64 (16 * src + i)
+  move-read-fits i l b = omega (arith, from-bytes)
+
+  pub move-write-fits : (i : ℕ) → i < 16 * n → length s < 2 ^ 64 → Fits w64 (16 * dst + i)
+  move-write-fits i l b = omega (arith, to-bytes)
+
+  pub move-next-fits : (i : ℕ) → i < 16 * n → length s < 2 ^ 64 → Fits w64 (i + 1)
+  move-next-fits i l b = omega (arith, to-bytes)
+
+pub ruleset moving =
+    (move-starts, move-reads, move-writes, move-goes-on, move-ends, move-from-fits, move-to-fits, move-count-fits, move-read-fits, move-write-fits, move-next-fits)

@@ -33,6 +33,17 @@ puts-other rs i (c ∷ vs) j h =
     puts-other (set rs i c) (i + 1) vs j (⊎-elim (λ l. inl (omega arith)) (λ l. inr (omega arith)) h)
     ∙ getD-set-other rs i j c noRecord (⊎-elim (λ l. omega arith) (λ l. omega arith) h)
 
+pub puts-same : (rs : List Record) (i : ℕ) (vs : List Record) (k : ℕ) → k < length vs → i + length vs ≤ length rs → getD (puts rs i vs) (i + k) noRecord ≡ getD vs k noRecord
+unfolding puts
+puts-same rs i [] k l h = absurd (omega arith)
+puts-same rs i (c ∷ vs) zero l h =
+    puts-other (set rs i c) (i + 1) vs (i + 0) (inl (omega arith)) ∙ (rw (add-zero i) (getD-set-same rs i c noRecord (omega arith)))
+puts-same rs i (c ∷ vs) (suc k) l h =
+    ap (λ x. getD (puts (set rs i c) (i + 1) vs) x noRecord) e ∙ puts-same (set rs i c) (i + 1) vs k (omega arith) (omega (arith, length-set rs i c))
+  where
+    e : i + suc k ≡ i + 1 + k
+    e = omega arith
+
 pub length-part : (rs : List Record) (i m : ℕ) → i + m ≤ length rs → length (part rs i m) ≡ m
 length-part rs i m h = length-take-le m (drop i rs) (omega (arith, length-drop i rs))
 

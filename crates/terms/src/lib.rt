@@ -44,15 +44,17 @@ pub fn is_plain_at(w: &[u8], i: usize) -> bool
     true
 }
 
-// Copies the `n` records from `src` on to `dst`, as they are.
+// Copies the `n` records from `src` on to `dst`, as they are: byte by byte, of which the compiler makes moves of many bytes at once.
 pub fn copy_flat(w: &mut [u8], src: usize, dst: usize, n: usize)
     requires { ⌜ CanMove (recordsIn (now w)) src dst n ⌝ }
     ensures { λ _. ⌜ Moved (recordsIn (now (w .entry))) (recordsIn (now (w .exit))) src dst n ⌝ }
 {
+    let from = 16 * src;
+    let to = 16 * dst;
+    let bytes = 16 * n;
     let mut i = 0;
-    while i < n {
-        let r = records::get(w, src + i);
-        records::put(w, dst + i, r);
+    while i < bytes {
+        w[to + i] = w[from + i];
         i += 1;
     }
 }

@@ -1,7 +1,7 @@
 -- The laws of the walk: `walking` for search.
 use Prim.Native.Nat.{ℕ, _-_, _≤_, _<_}
 use native.Mathlib.Omega.{arith}
-use mathlib.Core.Path.{_≡_, refl, _∙_}
+use mathlib.Core.Path.{_≡_, refl, sym, _∙_}
 use mathlib.Core.List.{List, []}
 use mathlib.Core.Option.{Option, none}
 use lib.ListN.{length}
@@ -14,14 +14,14 @@ use Rattle.rules.specs.Refusals.{Refusal, _then_}
 use Rattle.rules.proofs.Tree.{first-le, next-le}
 use Rattle.faults.specs.declared.Fault.{Fault}
 use Rattle.faults.specs.Tells.{Tells}
-use Rattle.faults.proofs.Laws.{tells-first, tells-next}
+use Rattle.faults.proofs.Laws.{no-number, tells-first, tells-next}
 use Rattle.typing.specs.declared.walk.Child.{Child}
 use Rattle.typing.specs.Stack.{stack}
 use Rattle.typing.specs.Reading.{CanRead, IsThird, secondOf}
 use Rattle.typing.specs.Entering.{CanEnter, Enters, EntersFirst, EntersSecond}
 use Rattle.typing.specs.Walking.{judgedAt, CanWalk, Walks}
 use Rattle.typing.proofs.Depths.{stack-below}
-use Rattle.typing.proofs.WalkedBy.{fromFirst, fromSecond, fromThird, walked-by, walked-none, walked-nothing}
+use Rattle.typing.proofs.WalkedBy.{fromFirst, fromSecond, fromThird, walked-by, walked-none, walked-nothing, first-nothing, second-nothing}
 
 -- Nothing to walk: no generation is left, or there is no record.
 module _ (types : Table) (rs : List Record) (bs : List ℕ) (d l n left : ℕ) (q : Fault) (clean : Tells q none) where
@@ -142,9 +142,27 @@ ends-third t types rs bs bs₀ bs₁ d l n left e q walk far third = record {
   kept = walk .kept ∙ far .kept;
 }
 
+-- A record without a first child has none after it, and one without a second has no third: the walk ends.
+fault-clean : (q : Fault) (o : Option Refusal) → Tells q o → q .number ≡ 0 → Tells q none
+fault-clean q o h e = rw (no-number q o h e) at h
+
+pub ends-leaf : (t : ℕ) (types : Table) (rs : List Record) (bs bs₁ : List ℕ) (d l n left : ℕ) (c : Child) (q : Fault) (o : Option Refusal) → Tells q o → q .number ≡ 0
+    → Passed t types rs bs bs d l n left (fromFirst types rs (stack bs d) l n (left - 1)) → EntersFirst rs bs bs₁ d l n c → c .n ≡ 0 → Walks types rs bs bs₁ d l n left q
+ends-leaf t types rs bs bs₁ d l n left c q o own z far enters e = record {
+  tells = far .says q (rw (first-nothing types rs (stack bs d) l n (left - 1) (sym (enters .enters .number) ∙ e)) (fault-clean q o own z));
+  kept = enters .enters .kept;
+}
+
+pub ends-first : (t : ℕ) (types : Table) (rs : List Record) (bs bs₀ bs₁ : List ℕ) (d l n left : ℕ) (c : Child) (q : Fault) (o : Option Refusal) → Tells q o → q .number ≡ 0
+    → Passed t types rs bs bs₀ d l n left (fromSecond types rs (stack bs d) l n (left - 1)) → EntersSecond rs bs₀ bs₁ d l n c → c .n ≡ 0 → Walks types rs bs bs₁ d l n left q
+ends-first t types rs bs bs₀ bs₁ d l n left c q o own z far enters e = record {
+  tells = far .says q (rw (second-nothing types rs (stack bs d) l n (left - 1) (sym (enters .enters .number) ∙ e)) (fault-clean q o own z));
+  kept = enters .enters .kept ∙ far .kept;
+}
+
 -- The walk from the root.
 pub root-told : (types : Table) (rs : List Record) (bs bs′ : List ℕ) (count : ℕ) (q : Fault) → Walks types rs bs bs′ 0 0 1 count q → Tells q (walked count types rs [] 0 1)
 unfolding stack
 root-told types rs bs bs′ count q walk = walk .tells
 
-pub ruleset walking = (walks-none, walks-nothing, can-enter, stops-own, passes-own, passed-enter, passed-read, passed-more, passed-falls, passed-first, passed-second, passed-third, stops-first, passes-first, stops-second, passes-second, ends-third)
+pub ruleset walking = (walks-none, walks-nothing, can-enter, stops-own, passes-own, passed-enter, passed-read, passed-more, passed-falls, passed-first, passed-second, passed-third, stops-first, passes-first, stops-second, passes-second, ends-leaf, ends-first, ends-third)

@@ -9,7 +9,7 @@ use Rattle.rules.specs.Types.{Table}
 use Rattle.rules.specs.Binders.{overFirst, overSecond}
 use Rattle.rules.specs.Typing.{Env, under, firstLevel, bound, placed, typed}
 use Rattle.rules.specs.Format.{Record, recordNo}
-use Rattle.rules.specs.Links.{firstOf}
+use Rattle.rules.specs.Links.{firstOf, nextOf}
 use Rattle.rules.specs.Check.{typeNo, walked}
 use Rattle.rules.specs.Refusals.{Refusal, badIndex, badLevel, badType, unless, _then_}
 use Rattle.typing.specs.Judging.{judged}
@@ -63,3 +63,20 @@ module _ (types : Table) (rs : List Record) (Γ : Env) (l : ℕ) where
   walked-nothing n zero e = refl
   walked-nothing zero (suc left) e = refl
   walked-nothing (suc n) (suc left) e = absurd (omega arith)
+
+-- No record follows none, so that nothing is walked from a child on that is not there.
+next-nothing : (rs : List Record) (n : ℕ) → n ≡ 0 → nextOf rs n ≡ 0
+next-nothing rs n e = rw e refl
+
+module _ (types : Table) (rs : List Record) (Γ : Env) (l n left : ℕ) where
+  pub second-nothing : secondOf rs n ≡ 0 → fromSecond types rs Γ l n left ≡ none
+  unfolding fromSecond fromThird _then_
+  second-nothing e =
+      rw (walked-nothing types rs (under 0 (overSecond (kindNo rs n) (fieldsNo rs n)) Γ) l (secondOf rs n) left e)
+      (walked-nothing types rs Γ l (thirdOf rs n) left (next-nothing rs (secondOf rs n) e))
+
+  pub first-nothing : firstOf rs n ≡ 0 → fromFirst types rs Γ l n left ≡ none
+  unfolding fromFirst _then_
+  first-nothing e =
+      rw (walked-nothing types rs (under l (overFirst (kindNo rs n) (fieldsNo rs n)) Γ) (firstLevel (kindNo rs n) l) (firstOf rs n) left e)
+      (second-nothing (next-nothing rs (firstOf rs n) e))

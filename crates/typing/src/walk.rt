@@ -139,10 +139,7 @@ pub fn walk(
     requires { ⌜ CanWalk (recordsIn (now records)) (now binders) depth n left ⌝ }
     ensures { λ q. ⌜ Walks (entriesIn (now (table .entry))) (recordsIn (now (records .entry))) (now (binders .entry)) (now (binders .exit)) depth level n left q ⌝ }
 {
-    if left == 0 {
-        return faults::no_fault();
-    }
-    if n == 0 {
+    if left == 0 || n == 0 {
         return faults::no_fault();
     }
     let own = own_fault(table, records, binders, depth, level, n);
@@ -150,11 +147,17 @@ pub fn walk(
         return own;
     }
     let c = first_child(records, binders, depth, level, n);
+    if c.n == 0 {
+        return own;
+    }
     let first = walk(table, records, binders, c.depth, c.level, c.n, left - 1);
     if first.number != 0 {
         return first;
     }
     let s = second_child(records, binders, depth, level, n);
+    if s.n == 0 {
+        return first;
+    }
     let e = third_child(records, n);
     let second = walk(table, records, binders, s.depth, s.level, s.n, left - 1);
     if second.number != 0 {
@@ -163,11 +166,15 @@ pub fn walk(
     walk(table, records, binders, depth, level, e, left - 1)
 }
 
-// The first fault in the tree of record 1, the root, at level 0 under no binders.
+// The first fault in the tree of record 1, the root, at level 0 under no binders. A small program has a small stack, which is sooner cleared.
 pub fn types_fault(table: &[u8], records: &[u8], count: u16) -> faults::Fault
     requires { ⌜ Linked (recordsIn (now records)) count ⌝ }
     ensures { λ q. ⌜ Tells q (walked count (entriesIn (now (table .entry))) (recordsIn (now (records .entry))) [] 0 1) ⌝ }
 {
+    if count <= 64 {
+        let mut few = [0u32; 128];
+        return walk(table, records, &mut few, 0, 0, 1, count);
+    }
     let mut binders = [0u32; 4096];
     walk(table, records, &mut binders, 0, 0, 1, count)
 }

@@ -2,6 +2,7 @@
 -- the tree's place on.
 use borrow.Author.Needs.{needs}
 use Rattle.finding.proofs.Searching.{searching}
+use Rattle.finding.proofs.Scanning.{splicing}
 use Prim.Native.Nat.{ℕ, _-_, _<_}
 use lib.ListN.{length}
 use Rattle.records.specs.View.{recordsIn}
@@ -13,12 +14,11 @@ use Rattle.finding.proofs.+find0+find1.Lts-find0 as find0-lts
 use Rattle.finding.proofs.find1.Reads as find1
 use Rattle.finding.proofs.find1.Kinds as find1-kinds
 use Rattle.finding.proofs.+find0+find1.Lts-find1 as find1-lts
-use Rattle.finding.proofs.contracts_at_one.Reads as contracts-at-one-reads
 use Rattle.finding.proofs.contracts_at_zero.Reads as contracts-at-zero-reads
+use Rattle.finding.proofs.first_splice.Reads as first-splice-reads
 use Rattle.finding.proofs.kind_at.Reads as kind-at-reads
 use Rattle.finding.proofs.or_here.Reads as or-here-reads
 use Rattle.rules.proofs.first_level.Reads as first-level-reads
-use Rattle.rules.proofs.stepping_at_one.Reads as stepping-at-one-reads
 use Rattle.rules.proofs.stepping_at_zero.Reads as stepping-at-zero-reads
 use Rattle.terms.proofs.skip.Reads as skip-reads
 use Rattle.finding.proofs.+find0+find1.{statement}
@@ -46,7 +46,7 @@ abbrev find0-claims : ℕ → find0-lts.Claims
 find0-claims t = (kind-at-reads.Asked, kind-at-reads.Learnt, stepping-at-zero-reads.Asked, stepping-at-zero-reads.Learnt, skip-reads.Asked, skip-reads.Learnt, contracts-at-zero-reads.Asked, contracts-at-zero-reads.Learnt, first-level-reads.Asked, first-level-reads.Learnt, find1-below t, find1.Post, or-here-reads.Asked, or-here-reads.Learnt, find0-below t, find0.Post)
 
 abbrev find1-claims : ℕ → find1-lts.Claims
-find1-claims t = (kind-at-reads.Asked, kind-at-reads.Learnt, stepping-at-one-reads.Asked, stepping-at-one-reads.Learnt, skip-reads.Asked, skip-reads.Learnt, contracts-at-one-reads.Asked, contracts-at-one-reads.Learnt, first-level-reads.Asked, first-level-reads.Learnt, find0-below t, find0.Post, or-here-reads.Asked, or-here-reads.Learnt, find1-below t, find1.Post)
+find1-claims t = (first-splice-reads.Asked, first-splice-reads.Learnt, find0-below t, find0.Post, or-here-reads.Asked, or-here-reads.Learnt)
 
 pub +find0+find1-spec : {M : Type 1} → statement M
 +find0+find1-spec = close μ-find0 μ-find1
@@ -73,24 +73,12 @@ pub +find0+find1-spec : {M : Type 1} → statement M
     (λ c. search (searching, needs))  -- returns-5
     )
     (λ t. find1-lts.spec (find1-claims t) (find1-at t) find1.Post
-    (λ c κs. search (searching, needs))  -- kind-at-requires
-    (λ c κs. search (searching, needs))  -- stepping-at-one-requires
-    (λ c κs. search (searching, needs))  -- skip-requires
-    (λ c. search (searching, needs))  -- returns
-    (λ c κs. search (searching, needs))  -- contracts-at-one-requires
-    (λ c κs. search (searching, needs))  -- first-level-requires
-    (λ c. search (searching, needs))  -- add-find0
-    (λ c κs. search (searching, needs))  -- find0-requires
-    (λ c κs. search (searching, needs))  -- or-here-requires
-    (λ c. search (searching, needs))  -- returns-2
-    (λ c. search (searching, needs))  -- add-find1
-    (λ c κs. search (searching, needs))  -- find1-requires
-    (λ c κs. search (searching, needs))  -- or-here-requires-2
-    (λ c. search (searching, needs))  -- returns-3
-    (λ c. search (searching, needs))  -- enum-known-first
-    (λ c. search (searching, needs))  -- enum-known-first-2
-    (λ c κs. (search (searching, needs), search (searching, needs)))  -- find1-requires-2
-    (λ c κs. search (searching, needs))  -- or-here-requires-3
-    (λ c. search (searching, needs))  -- returns-4
-    (λ c. search (searching, needs))  -- returns-5
+    (λ c κs. search (splicing, needs))  -- first-splice-requires
+    (λ c. search (splicing, needs))  -- enum-known-splice
+    (λ c. search (splicing, needs))  -- add-find0
+    (λ c κs. search (splicing, needs))  -- find0-requires
+    (λ c κs. search (splicing, needs))  -- or-here-requires
+    (λ c. search (splicing, needs))  -- enum-known-splice-2
+    (λ c. search (splicing, needs))  -- returns
+    (λ c. search (splicing, needs))  -- returns-2
     )

@@ -11,9 +11,10 @@ rewrite-spec =
     (λ c κs. search (copying, needs))  -- copy-flat-requires
     (λ c. search (copying, needs))  -- add-write-made
     (λ c κs. search (copying, needs))  -- write-made-requires
-    (λ c. search (copying, needs))  -- add-copy-flat
-    (λ c. search (copying, needs))  -- sub-copy-flat
+    (λ c. search (copying, needs))  -- add-after
+    (λ c. search (copying, needs))  -- sub-after
     (λ c κs. search (copying, needs))  -- copy-flat-requires-2
+    (λ c. search (copying, needs))  -- add-result
     (λ c. search (copying, needs))  -- same-length
     (λ c.
     let last = c .before .before in

@@ -10,4 +10,7 @@ types-fault-spec =
     (λ c. search needs)  -- slice-aggregate-walk
     (λ c κs. search needs)  -- walk-requires
     (λ c. search (root-told, needs))  -- returns
+    (λ c. search needs)  -- slice-aggregate-walk-2
+    (λ c κs. search needs)  -- walk-requires-2
+    (λ c. search (root-told, needs))  -- returns-2
     )

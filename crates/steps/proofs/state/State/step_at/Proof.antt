@@ -9,34 +9,26 @@ step-at-spec =
     tie.close (tie.spec
     (λ c. search (stepping, needs))  -- cast-size
     (λ c κs. search (stepping, needs))  -- plan-at-requires
-    (λ c κs. search (stepping, needs))  -- made-size-requires
     (λ c. search (stepping, needs))  -- sub-kept
     (λ c. search (stepping, needs))  -- sub-kept-2
-    (λ c. search (stepping, needs))  -- sub-if1
+    (λ c. search (stepping, needs))  -- sub-made-fits
+    (λ c κs. search (stepping, needs))  -- made-fits-requires
     (λ c. search (stepping, needs))  -- same-length
     (λ c. search (stepping, needs))  -- returns
     (λ c κs. search (stepping, needs))  -- first-slot-requires
     (λ c. search (stepping, needs))  -- sub-other
     (λ c κs. search (stepping, needs))  -- first-slot-requires-2
     (λ c κs.
-    let base = c .before .before .before in
+    let other = c .before in
+    let base = other .before .before in
     let test = base .before in
-    let measured = test .before .before .before in
-    let planned = measured .before .before in
+    let fits = test .before in
+    let planned = fits .before .before .before in
     let start = planned .before .before .before .before .before in
-    step-rewrites _ _ _ _ (start .pre) _ (planned .plan-at .ensures) _ (measured .made-size .ensures) (test .if1 .left) _ _ (base .first-slot .ensures) (c .first-slot2 .ensures))  -- rewrite-requires
-    (λ c. search (stepping, needs))  -- add-self
+    step-rewrites _ _ _ _ (start .pre) _ (planned .plan-at .ensures) _ (fits .made-fits .ensures) (test .if1 .left) _ _ (base .first-slot .ensures) (other .first-slot2 .ensures))  -- rewrite-requires
+    (λ c. search (stepping, needs))  -- sub-self
     (λ c. search (stepping, needs))  -- cast-self
-    (λ c. search (stepping, needs))  -- add-self-2
+    (λ c. search (stepping, needs))  -- add-self
     (λ c. search (stepping, needs))  -- same-length-2
-    (λ c.
-    let written = c .before .before .before .before in
-    let other = written .before in
-    let base = other .before .before .before in
-    let test = base .before in
-    let measured = test .before .before .before in
-    let planned = measured .before .before in
-    let start = planned .before .before .before .before .before in
-    step-moves _ _ _ _ (start .pre) _ (planned .plan-at .ensures) _ (measured .made-size .ensures) (test .if1 .left) _ _ (base .first-slot .ensures) (other .first-slot2 .ensures)
-    _ (written .rewrite .ensures))  -- returns-2
+    (λ c. search (stepping, step-moves, needs))  -- returns-2
     )
