@@ -11,6 +11,7 @@ use Rattle.rules.specs.Conditions.{atLeast}
 use Rattle.rules.specs.Refusals.{Refusal, outputShort, workShort, unless, _then_}
 use Rattle.rules.specs.Check.{refusal}
 use Rattle.rules.specs.Run.{refused, runRefusal, runAnswer, runOutput}
+use Rattle.rules.proofs.Tests.{never}
 use Rattle.rules.proofs.Whole.{demand-3}
 use Rattle.faults.specs.declared.Fault.{Fault}
 use Rattle.faults.specs.Tells.{refusalBy, shown, Tells}
@@ -25,6 +26,15 @@ unfolding shown
 some-number f none t n = absurd (n (ap (λ x. x .number) (t .is)))
 some-number f (some q) t n = ap (λ x. some (refusalBy (x .number) (x .place))) (sym (t .is))
 
+-- Buffers that are long enough are not refused.
+output-long : (out : List ℕ) → 34308 ≤ length out → unless (atLeast 34308 (length out) ∷ []) outputShort 0 ≡ none
+unfolding unless
+output-long out room = rw (lt-ltb 34308 (suc (length out)) (omega arith))
+
+pub buffers-long : (p out work : List ℕ) → 34308 ≤ length out → 65536 ≤ length work → runRefusal p (length out) (length work) ≡ refusal p
+unfolding _then_ unless
+buffers-long p out work room halves = rw (output-long out room) (rw (lt-ltb 65536 (suc (length work)) (omega arith)))
+
 module _ (p : List ℕ) (fuel : ℕ) (out work : List ℕ) (r : RunAnswer) where
   -- A refused call has the refusal's answer, and changes nothing.
   ran-refused : (number place : ℕ) → runRefusal p (length out) (length work) ≡ some (refusalBy number place) → runMeant r ≡ refused number place → Ran p fuel out work r out work
@@ -37,30 +47,19 @@ module _ (p : List ℕ) (fuel : ℕ) (out work : List ℕ) (r : RunAnswer) where
     work-refused = λ q h. refl;
     whole = λ z. absurd (never (sym e ∙ z));
   }
-    where
-      never : {q : Refusal} → _≡_ {A = Option Refusal} (some q) none → ⊥
-      never z = let y : _≡_ {A = ℕ} 0 1 = cc in omega arith
 
   pub output-short : length out < 34308 → runMeant r ≡ refused outputShort 0 → Ran p fuel out work r out work
   unfolding unless _then_
   output-short l a = ran-refused outputShort 0 (rw (le-ltb 34308 (suc (length out)) (omega arith))) a
 
   module _ (room : 34308 ≤ length out) where
-    output-long : unless (atLeast 34308 (length out) ∷ []) outputShort 0 ≡ none
-    unfolding unless
-    output-long = rw (lt-ltb 34308 (suc (length out)) (omega arith))
-
     pub work-short : length work < 65536 → runMeant r ≡ refused workShort 0 → Ran p fuel out work r out work
     unfolding unless _then_
-    work-short l a = ran-refused workShort 0 (rw output-long (rw (le-ltb 65536 (suc (length work)) (omega arith)))) a
+    work-short l a = ran-refused workShort 0 (rw (output-long out room) (rw (le-ltb 65536 (suc (length work)) (omega arith)))) a
 
     module _ (halves : 65536 ≤ length work) (f : Fault) (t : Tells f (refusal p)) where
-      buffers-long : runRefusal p (length out) (length work) ≡ refusal p
-      unfolding _then_ unless
-      buffers-long = rw output-long (rw (lt-ltb 65536 (suc (length work)) (omega arith)))
-
       pub program-refused : (f .number ≡ 0 → ⊥) → runMeant r ≡ refused (f .number) (f .place) → Ran p fuel out work r out work
-      program-refused n a = ran-refused (f .number) (f .place) (buffers-long ∙ some-number f (refusal p) t n) a
+      program-refused n a = ran-refused (f .number) (f .place) (buffers-long p out work room halves ∙ some-number f (refusal p) t n) a
 
       module _ (z : f .number ≡ 0) where
         pub can-accept : CanAccept p out (take 65536 work)
@@ -69,7 +68,7 @@ module _ (p : List ℕ) (fuel : ℕ) (out work : List ℕ) (r : RunAnswer) where
         pub run-accepted : (out′ part : List ℕ) → Accepted p fuel out out′ r → length part ≡ length (take 65536 work) → Ran p fuel out work r out′ (part ++ drop 65536 work)
         unfolding runAnswer runOutput
         run-accepted out′ part a e =
-            let n = buffers-long ∙ no-number f (refusal p) t z in
+            let n = buffers-long p out work room halves ∙ no-number f (refusal p) t z in
             let l : length part ≡ 65536 = e ∙ length-take-le 65536 work halves in
             record {
               answer = rw (n, runAnswer) (a .answer);
@@ -79,9 +78,6 @@ module _ (p : List ℕ) (fuel : ℕ) (out work : List ℕ) (r : RunAnswer) where
               work-refused = λ q h. absurd (never (sym h ∙ n));
               whole = λ y. demand-3 p fuel out (length work) y;
             }
-          where
-            never : {q : Refusal} → _≡_ {A = Option Refusal} (some q) none → ⊥
-            never y = let x : _≡_ {A = ℕ} 0 1 = cc in omega arith
 
 pub part-long : (work : List ℕ) → 65536 ≤ length work → length (take 65536 work) ≡ 65536
 part-long work h = length-take-le 65536 work h

@@ -3,10 +3,9 @@ use Prim.Native.Nat.{ℕ, _≤_}
 use mathlib.Core.List.{List}
 use mathlib.Core.Path.{_≡_}
 use Rattle.rules.specs.Terms.{Term}
-use Rattle.rules.specs.Types.{Table}
+use Rattle.rules.specs.Types.{Table, NoTwins}
 use Rattle.rules.specs.Format.{Record}
 use Rattle.rules.specs.Run.{Ending, valued, full, endingNumber, run}
-use Rattle.rules.proofs.Tables.{NoTwins}
 use Rattle.steps.specs.declared.state.State.{State}
 use Rattle.steps.specs.Stepping.{Runs}
 use Rattle.engine.specs.Running.{endedAt, Running}

@@ -1,16 +1,17 @@
 -- Each step is made where the search says: at the record that it finds, the tree there is rewritten and nothing else changes.
-use Prim.Native.Nat.{ℕ, _+_, _*_, _≤_}
+use Prim.Native.Nat.{ℕ, _+_, _*_}
 use native.Mathlib.Omega.{arith}
 use mathlib.Core.Path.{_≡_, refl}
 use lib.ListN.{length}
-use Rattle.rules.specs.Kinds.{Unary, function, fix, lift, quote, splice}
-use Rattle.rules.specs.Terms.{Fields, Term, unary, size}
+use Rattle.rules.specs.Kinds.{function}
+use Rattle.rules.specs.Terms.{Term, unary, size}
 use Rattle.rules.specs.Binders.{binds₁}
 use Rattle.rules.specs.Types.{Table}
 use Rattle.rules.specs.Typing.{Env, Typed, under}
 use Rattle.rules.specs.Steps.{plain, value, enters, Step, in-child, in-first, in-second, in-match}
 use Rattle.rules.specs.Steps as steps
 use Rattle.rules.proofs.General.{is-true}
+use Rattle.rules.proofs.Written.{binds-one, under-length}
 use Rattle.terms.specs.Preorder.{preorder}
 use Rattle.terms.proofs.Trees.{length-preorder}
 use Rattle.finding.specs.declared.Found.the-variants.{Redex}
@@ -39,19 +40,11 @@ pub record Located (types : Table) (l : ℕ) (Γ : Env) (t u : Term) (i : ℕ) :
 here : {types : Table} {l : ℕ} {t u : Term} → Contraction types l t u → (Γ : Env) → Typed types Γ l t → (i : ℕ) → Located types l Γ t u i
 here {types = types} c Γ h i = record { place = i; found = contraction-found types c i; zoom = zoom-here c Γ h i }
 
--- A kind with one child binds one variable at most.
-binds-one : (l : ℕ) (k : Unary) (f : Fields) (Γ : Env) → length (under l (binds₁ k f) Γ) ≤ length Γ + 1
-binds-one l function f Γ = omega arith
-binds-one l fix f Γ = omega arith
-binds-one l lift f Γ = omega arith
-binds-one l quote f Γ = omega arith
-binds-one l splice f Γ = omega arith
-
 pub located : {types : Table} {l : ℕ} {t u : Term} → Step types l t u → (Γ : Env) → Typed types Γ l t → (i : ℕ) → Located types l Γ t u i
 unfolding find orElse inside preorder size Typed
 located (in-child l k f en d) Γ (_, h) i =
     let z = located d (under l (binds₁ k f) Γ) h (i + 1) in
-    record { place = z .place; found = rw (is-true (enters l k) en, z .found, orElse); zoom = zoom-cons _ (omega (arith, binds-one l k f Γ)) _ i (z .zoom) }
+    record { place = z .place; found = rw (is-true (enters l k) en, z .found, orElse); zoom = zoom-cons _ (omega (arith, under-length l (binds₁ k f) Γ, binds-one k f)) _ i (z .zoom) }
 located (in-first l k f u d) Γ (_, h, _) i =
     let z = located d Γ h (i + 1) in
     record { place = z .place; found = rw (z .found, orElse); zoom = zoom-cons _ (omega arith) _ i (zoom-left (preorder u) (i + 1) (z .zoom)) }

@@ -1,9 +1,9 @@
 -- The rule of links, tested at one record. `judging` for search.
 use Prim.Native.Nat.{ℕ, _+_, _-_}
 use native.Mathlib.Omega.{arith}
-use mathlib.Core.Bool.{Bool, true, false, _&&_}
+use mathlib.Core.Bool.{true, false, and-true}
 use mathlib.Core.List.{List}
-use mathlib.Core.Path.{_≡_, refl, ap, sym, _∙_}
+use mathlib.Core.Path.{_≡_, ap, sym, _∙_}
 use lib.Dec.{eqb}
 use lib.ListN.{getD}
 use borrow.Author.Tests.{eq-eqb, ne-eqb}
@@ -16,10 +16,6 @@ use Rattle.records.specs.Meant.{recordMeant}
 use Rattle.links.specs.declared.Names.{Names}
 use Rattle.links.specs.Named.{NamedBy}
 use Rattle.links.specs.Counters.{CanJudge}
-
-and-true : (b : Bool) → b ≡ b && true
-and-true true = refl
-and-true false = refl
 
 module _ (rs : List Record) (n : ℕ) (r : Read) (to : Names) (e : recordMeant r ≡ recordNo rs n) (d : NamedBy rs n to) where
   -- One of the first two conditions is broken.
@@ -45,6 +41,6 @@ module _ (rs : List Record) (n : ℕ) (r : Read) (to : Names) (e : recordMeant r
       by-counter count counts j o =
           let p : n - 1 + 1 ≡ n = omega (arith, j .among .within .some) in
           let q : getD counts (n - 1) 0 ≡ naming rs n = j .counted .at (n - 1) ∙ ap (naming rs) p in
-          rw (first-good, next-good, ne-eqb n 1 o) (ap (λ x. eqb x 1) q ∙ and-true (eqb (naming rs n) 1))
+          rw (first-good, next-good, ne-eqb n 1 o) (ap (λ x. eqb x 1) q ∙ sym (and-true (eqb (naming rs n) 1)))
 
 pub ruleset judging = (first-bad, next-bad, root-good, by-counter)

@@ -1,32 +1,30 @@
 -- What a run's answer and its output say of the program, where its buffers are long enough: the refusal, or the records of the last term.
-use Prim.Native.Nat.{ℕ, suc, _+_, _*_, _-_, _≤_}
+use Prim.Native.Nat.{ℕ, _+_, _*_, _-_, _≤_}
 use native.Mathlib.Omega.{arith}
-use mathlib.Core.List.{List, []}
+use mathlib.Core.List.{List}
 use mathlib.Core.Option.{Option, none, some}
 use mathlib.Core.Path.{_≡_, refl, sym, ap, ap₂, _∙_}
 use lib.ListN.{length, take, drop, length-append, length-drop}
 use lib.Seq.{take-append-le, drop-append-le}
-use borrow.Author.Tests.{lt-ltb}
-use Rattle.rules.specs.Terms.{Term, size, typeOf}
-use Rattle.rules.specs.Typing.{Typed}
+use Rattle.rules.specs.Terms.{Term, typeOf}
 use Rattle.rules.specs.Format.{u16, typeCount, recordCount, tableOf, programBytes}
 use Rattle.rules.specs.Links.{laid}
-use Rattle.rules.specs.Refusals.{Refusal, unless, _then_}
+use Rattle.rules.specs.Refusals.{Refusal}
 use Rattle.rules.specs.Check.{refusal}
 use Rattle.rules.specs.Meets.{Meets}
-use Rattle.rules.specs.Run.{Ending, valued, spent, full, endingNumber, outcome, result, refused, runRefusal, runAnswer, runOutput}
-use Rattle.rules.proofs.Meaning.{exactly, unlike}
-use Rattle.rules.proofs.Preserved.{run-preserved}
+use Rattle.rules.specs.Run.{Ending, valued, spent, full, endingNumber, outcome, result, refused, runAnswer, runOutput}
+use Rattle.rules.proofs.Meaning.{exactly}
 use Rattle.rules.proofs.Laid.{length-laid}
 use Rattle.rules.proofs.Bytes.{Back, u16-back}
 use Rattle.rules.proofs.Written.{back, passed-table}
-use Rattle.rules.proofs.Whole.{program-run}
+use Rattle.rules.proofs.Whole.{last-typed, last-small}
 use Rattle.records.specs.View.{recordsIn}
 use Rattle.records.proofs.Program.{program-records-slice}
 use Rattle.faults.specs.Tells.{Numbered}
 use Rattle.engine.specs.declared.RunAnswer.{RunAnswer}
 use Rattle.engine.specs.Answers.{runMeant, Ran}
 use Rattle.engine.specs.Accepting.{Accepted}
+use Rattle.engine.proofs.Answering.{buffers-long}
 use Rattle.listing_text.specs.Text.{refusedText, acceptedText}
 use Rattle.listings.specs.Listing.{runText}
 use Rattle.listings.proofs.Numbered.{refusal-numbered}
@@ -45,18 +43,16 @@ ending-range spent = omega arith
 ending-range full = omega arith
 
 module _ (p : List ℕ) (fuel : ℕ) (out work : List ℕ) (room : 34308 ≤ length out) (halves : 65536 ≤ length work) where
-  buffers-long : runRefusal p (length out) (length work) ≡ refusal p
-  unfolding _then_ unless
-  buffers-long = rw (lt-ltb 34308 (suc (length out)) (omega arith)) (rw (lt-ltb 65536 (suc (length work)) (omega arith)))
-
   module _ (a : RunAnswer) (out′ work′ : List ℕ) (ran : Ran p fuel out work a out′ work′) where
     answer-refused : (q : Refusal) → refusal p ≡ some q → runMeant a ≡ refused (q .number) (q .place)
     unfolding runAnswer
-    answer-refused q e = rw (buffers-long ∙ e, runAnswer) at (ran .answer)
+    answer-refused q e = rw (buffers-long p out work room halves ∙ e, runAnswer) at (ran .answer)
 
     run-accepted : refusal p ≡ none → Accepted p fuel out out′ a
     unfolding runAnswer runOutput
-    run-accepted e = record { answer = rw (buffers-long ∙ e, runAnswer) at (ran .answer); output = rw (buffers-long ∙ e, runOutput) at (ran .output) }
+    run-accepted e =
+        let n = buffers-long p out work room halves ∙ e in
+        record { answer = rw (n, runAnswer) at (ran .answer); output = rw (n, runOutput) at (ran .output) }
 
     run-passed : a .number ≡ 0 → refusal p ≡ none
     run-passed z = go (refusal p) refl (refusal-numbered p)
@@ -86,14 +82,8 @@ module _ (p : List ℕ) (fuel : ℕ) (out work : List ℕ) (room : 34308 ≤ len
       abbrev last : Term
       last = outcome p fuel .last
 
-      last-small : size last ≤ 2048
-      last-small = program-run p m fuel .makes .small (outcome p fuel .steps) last (omega arith) (program-run p m fuel .makes .made)
-
-      last-typed : Typed (tableOf p) [] 0 last
-      last-typed = run-preserved (tableOf p) (unlike (tableOf p) (m .form .entries)) (program-run p m fuel .makes .made) [] (m .form .typed) .0
-
       last-back : Back (tableOf p) (laid 1 0 last)
-      last-back = back (tableOf p) last (passed-table p m) last-typed last-small
+      last-back = back (tableOf p) last (passed-table p m) (last-typed p m fuel .0) (last-small p m fuel)
 
       types-back : u16 out′ 0 ≡ length (tableOf p)
       unfolding programBytes
@@ -135,6 +125,6 @@ module _ (p : List ℕ) (fuel : ℕ) (out work : List ℕ) (room : 34308 ≤ len
           ending = rw (ap (λ x. x .ending) (accepted .answer)) (ending-range (outcome p fuel .ending));
           from = start-before;
           to = omega (arith, written-is, ap length (accepted .output), length-append (result p fuel) (drop (length (result p fuel)) out));
-          few = omega (arith, ap length part-records, length-laid 1 0 last, last-small);
+          few = omega (arith, ap length part-records, length-laid 1 0 last, last-small p m fuel);
           text = ap (acceptedText (a .ending) (a .steps) (a .root)) part-records ∙ records-text;
         }

@@ -1,7 +1,7 @@
 -- What a change makes of a root: where the root does not become another tree, its index moves and nothing else.
 use Prim.Native.Nat.{ℕ, _≤_, _<_}
 use native.Mathlib.Omega.{arith}
-use mathlib.Core.Bool.{Bool, true, false, _&&_}
+use mathlib.Core.Bool.{Bool, true, false, _&&_, false≢true}
 use mathlib.Core.Path.{_≡_, refl, sym, ap, _∙_}
 use mathlib.Core.List.{[], _∷_}
 use lib.ListN.{length, length-append}
@@ -17,9 +17,6 @@ use Rattle.terms.proofs.Trees.{length-preorder}
 use Rattle.replacing.specs.Reading.{Low}
 use Rattle.replacing.specs.Roots.{namesRemoved, isVariable, givesWay, moved, front}
 use Rattle.replacing.proofs.Kids.{kids, preorders, kids-preorder}
-
-pub untrue : false ≡ true → ⊥
-untrue e = let z : _≡_ {A = ℕ} 0 1 = cc in omega arith
 
 -- The kinds with an index: variable and match variable.
 abbrev hasIndex : Kind → Bool
@@ -56,12 +53,12 @@ unfolding Low
 low-index b t h u = go t h (sym (index-used (rootKind t)) ∙ (rw (sym (ap (λ k. useNumber (uses k .a)) (kind-back (rootKind t))) ∙ u)))
   where
     go : (t : Term) → Low b t → hasIndex (rootKind t) ≡ true → fieldsOf t .a < b
-    go (leaf number f) h e = absurd (untrue e)
+    go (leaf number f) h e = absurd (false≢true e)
     go (leaf variable f) h e = h
-    go (unary k f t) h e = absurd (untrue e)
-    go (binary k f t u) h e = absurd (untrue e)
+    go (unary k f t) h e = absurd (false≢true e)
+    go (binary k f t u) h e = absurd (false≢true e)
     go (ternary matchVariable f t s e) h i = h .0
-    go (ternary (matchShape k) f t s e) h i = absurd (untrue i)
+    go (ternary (matchShape k) f t s e) h i = absurd (false≢true i)
 
 -- A record that gives way is a variable.
 pub gives-way-head : (m d : ℕ) (t : Term) → givesWay m d (head t) ≡ (isVariable (rootKind t) && namesRemoved m d (fieldsOf t .a))
@@ -70,8 +67,8 @@ gives-way-head m d t = rw (kind-back (rootKind t))
 
 -- So what holds of the variables that give way holds of every tree whose root gives way.
 pub where-given : (P : Term → Type 0) (m d : ℕ) → ((f : Fields) → namesRemoved m d (f .a) ≡ true → P (leaf variable f)) → (t : Term) → givesWay m d (head t) ≡ true → P t
-where-given P m d h (leaf number f) e = absurd (untrue (sym (gives-way-head m d (leaf number f)) ∙ e))
+where-given P m d h (leaf number f) e = absurd (false≢true (sym (gives-way-head m d (leaf number f)) ∙ e))
 where-given P m d h (leaf variable f) e = h f (sym (gives-way-head m d (leaf variable f)) ∙ e)
-where-given P m d h (unary k f t) e = absurd (untrue (sym (gives-way-head m d (unary k f t)) ∙ e))
-where-given P m d h (binary k f t u) e = absurd (untrue (sym (gives-way-head m d (binary k f t u)) ∙ e))
-where-given P m d h (ternary k f t s u) e = absurd (untrue (sym (gives-way-head m d (ternary k f t s u)) ∙ e))
+where-given P m d h (unary k f t) e = absurd (false≢true (sym (gives-way-head m d (unary k f t)) ∙ e))
+where-given P m d h (binary k f t u) e = absurd (false≢true (sym (gives-way-head m d (binary k f t u)) ∙ e))
+where-given P m d h (ternary k f t s u) e = absurd (false≢true (sym (gives-way-head m d (ternary k f t s u)) ∙ e))

@@ -4,8 +4,8 @@ use native.Mathlib.Omega.{arith}
 use native.Mathlib.Nat.{sub-zero}
 use native.Mathlib.Decide.{decLt}
 use mathlib.Core.Path.{_≡_, refl, ap, ap₂}
-use mathlib.Core.List.{List, []}
-use lib.ListN.{length, length-append, length-map}
+use mathlib.Core.List.{[]}
+use lib.ListN.{length}
 use borrow.Author.Tests.{lt-ltb, le-ltb}
 use Rattle.rules.specs.Kinds.{number, variable, matchVariable, matchShape, Kind, leaf₀, unary₁, binary₂, ternary₃}
 use Rattle.rules.specs.Terms.{Fields, Term, leaf, unary, binary, ternary, size}
@@ -13,9 +13,9 @@ use Rattle.rules.specs.Binders.{binds₁, binds₃}
 use Rattle.rules.specs.Indices.{changed, raising, replacing, loweredIndex, replaced}
 use Rattle.rules.specs.Types.{Table}
 use Rattle.rules.specs.Conditions.{Holds}
-use Rattle.rules.specs.Typing.{Env, under, bound, Typed}
+use Rattle.rules.specs.Typing.{Env, bound, Typed}
+use Rattle.rules.proofs.Written.{binds-one, binds-two, under-length}
 use Rattle.replacing.specs.Reading.{LowIndex, Low}
-use Rattle.replacing.proofs.Kids.{binds-one, binds-two}
 
 -- Replacing nothing.
 lowered-none : (d i : ℕ) → loweredIndex 0 d i ≡ i
@@ -77,18 +77,15 @@ bound-low Γ (binary₂ k) f h = tt
 bound-low Γ (ternary₃ matchVariable) f h = h .0
 bound-low Γ (ternary₃ (matchShape k)) f h = tt
 
-length-under : (l : ℕ) (ns : List ℕ) (Γ : Env) → length (under l ns Γ) ≡ length ns + length Γ
-length-under l ns Γ = rw (length-append, length-map)
-
 pub typed-low : (types : Table) (Γ : Env) (l : ℕ) (t : Term) → Typed types Γ l t → Low (length Γ + 2 * size t) t
 unfolding Typed Low size
 typed-low types Γ l (leaf k f) (_, b, _, _) = index-more _ _ (leaf₀ k) f (omega arith) (bound-low Γ (leaf₀ k) f b)
-typed-low types Γ l (unary k f t) (_, h) = (tt, low-more _ _ t (omega (arith, length-under l (binds₁ k f) Γ, binds-one k f)) (typed-low types _ _ t h))
+typed-low types Γ l (unary k f t) (_, h) = (tt, low-more _ _ t (omega (arith, under-length l (binds₁ k f) Γ, binds-one k f)) (typed-low types _ _ t h))
 typed-low types Γ l (binary k f t u) (_, h, i) =
     (tt, low-more _ _ t (omega arith) (typed-low types Γ l t h), low-more _ _ u (omega arith) (typed-low types Γ l u i))
 typed-low types Γ l (ternary k f t s e) ((_, b, _, _), h, i, m) = (
   index-more _ _ (ternary₃ k) f (omega arith) (bound-low Γ (ternary₃ k) f b),
   low-more _ _ t (omega arith) (typed-low types Γ l t h),
-  low-more _ _ s (omega (arith, length-under 0 (binds₃ k f) Γ, binds-two k f)) (typed-low types _ l s i),
+  low-more _ _ s (omega (arith, under-length 0 (binds₃ k f) Γ, binds-two k f)) (typed-low types _ l s i),
   low-more _ _ e (omega arith) (typed-low types Γ l e m),
 )

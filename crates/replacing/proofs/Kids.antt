@@ -1,5 +1,5 @@
 -- A tree as its root and its children, each with the binders that are passed before it.
-use Prim.Native.Nat.{ℕ, _+_, _≤_}
+use Prim.Native.Nat.{ℕ, _+_}
 use native.Mathlib.Omega.{arith}
 use native.Mathlib.Nat.{add-zero, add-comm}
 use mathlib.Core.Path.{_≡_, refl, sym, ap, ap₂, _∙_}
@@ -10,6 +10,7 @@ use Rattle.rules.specs.Terms.{Fields, Term, leaf, unary, binary, ternary, size,
 use Rattle.rules.specs.Binders.{binds₁, binds₃, bindersFirst, bindersSecond}
 use Rattle.rules.specs.Indices.{Change, changed}
 use Rattle.rules.specs.Format.{Record}
+use Rattle.rules.proofs.Written.{binds-one, binds-two}
 use Rattle.terms.specs.Preorder.{preorder, At}
 use Rattle.replacing.specs.Reading.{Low, Area, Reads}
 use Rattle.replacing.specs.Roots.{front}
@@ -27,7 +28,7 @@ kids d (unary k f t) = kid (length (binds₁ k f) + d) t ∷ []
 kids d (binary k f t u) = kid d t ∷ kid d u ∷ []
 kids d (ternary k f t s e) = kid d t ∷ kid (length (binds₃ k f) + d) s ∷ kid d e ∷ []
 
--- How many variables a kind binds depends on no field, and there are at most two.
+-- How many variables a kind binds depends on no field.
 binds-first : (k : Unary) (f g : Fields) → length (binds₁ k f) ≡ length (binds₁ k g)
 binds-first function f g = refl
 binds-first fix f g = refl
@@ -42,21 +43,6 @@ binds-second (matchShape matchApplication) f g = refl
 binds-second (matchShape matchLift) f g = refl
 binds-second (matchShape matchFunction) f g = refl
 binds-second (matchShape matchFix) f g = refl
-
-pub binds-one : (k : Unary) (f : Fields) → length (binds₁ k f) ≤ 2
-binds-one function f = omega arith
-binds-one fix f = omega arith
-binds-one lift f = omega arith
-binds-one quote f = omega arith
-binds-one splice f = omega arith
-
-pub binds-two : (k : Ternary) (f : Fields) → length (binds₃ k f) ≤ 2
-binds-two matchVariable f = omega arith
-binds-two (matchShape matchNumber) f = omega arith
-binds-two (matchShape matchApplication) f = omega arith
-binds-two (matchShape matchLift) f = omega arith
-binds-two (matchShape matchFunction) f = omega arith
-binds-two (matchShape matchFix) f = omega arith
 
 -- The binders before each child, as the tables of the kinds give them.
 abbrev pub depths : List Kid → List ℕ

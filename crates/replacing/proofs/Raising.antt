@@ -2,7 +2,7 @@
 use Prim.Native.Nat.{ℕ, _+_, _≤_, _<_}
 use native.Mathlib.Omega.{arith}
 use native.Mathlib.Decide.{decLt, ℕ-discrete}
-use mathlib.Core.Bool.{Bool, true, false}
+use mathlib.Core.Bool.{Bool, true, false, false≢true}
 use mathlib.Core.Path.{_≡_, refl, sym, ap, ap₂, _∙_}
 use mathlib.Core.List.{List, [], _∷_}
 use lib.ListN.{length, getD}
@@ -21,7 +21,7 @@ use Rattle.replacing.specs.Moving.{keptBinders, moving}
 use Rattle.replacing.specs.Reading.{Wrote}
 use Rattle.replacing.specs.Roots.{namesRemoved, isWrapped, typedAs, madeRecord, moved, IndexFits, front}
 use Rattle.replacing.specs.Copying.{Job, moves, Meant, CanCopy, RootCopies}
-use Rattle.replacing.proofs.Fronts.{untrue, Steady, front-moved, front-size, low-index, gives-way-head, where-given}
+use Rattle.replacing.proofs.Fronts.{Steady, front-moved, front-size, low-index, gives-way-head, where-given}
 use Rattle.replacing.proofs.Copies.{depth-fits}
 
 pub raised-most : (n d i : ℕ) → raisedIndex n d i ≤ i + n
@@ -41,7 +41,7 @@ names-one d i = elim (decLt i d) [
 module _ (n : ℕ) (code d : ℕ) where
   front-use : (wrap : Bool) (t : Term) → isWrapped wrap d (head t) ≡ true → front (moving n wrap code) d t ≡ madeRecord 8 (fieldsOf t .type) 0 ∷ typedAs (head t) code ∷ []
   unfolding isWrapped front moving changed preorder
-  front-use false t e = absurd (untrue e)
+  front-use false t e = absurd (false≢true e)
   front-use true t e =
       where-given (λ t. front (moving n true code) d t ≡ madeRecord 8 (fieldsOf t .type) 0 ∷ typedAs (head t) code ∷ []) 1 d (λ f o. rw (sym (names-one d (f .a)) ∙ o)) t e
 
@@ -59,18 +59,15 @@ pub one-more-fits : (j : Job) (rs : List Record) (src dst d : ℕ) → CanCopy j
 one-more-fits j rs src dst d h = omega (arith, depth-fits j rs src dst d h)
 
 module _ (n : ℕ) (wrap : Bool) (code : ℕ) (rs : List Record) (src dst d : ℕ) (r : CodeRecord) (got : recordMeant r ≡ getD rs src noRecord) where
-  is-head : (t : Term) → At rs src t → recordMeant r ≡ head t
-  is-head t h = got ∙ at-head rs src t h
-
   pub new-index-fits : (k : ℕ) → CanCopy (moves n wrap code) rs src dst d → IndexFits (raisedIndex n k) (recordMeant r)
   unfolding Meant
   new-index-fits k h =
-      let e = is-head (h .tree) (h .can .reads .there) in
+      let e = got ∙ at-head rs src (h .tree) (h .can .reads .there) in
       rw e (record { fits = λ u. omega (arith, raised-most n k (fieldsOf (h .tree) .a), low-index (h .area .index) (h .tree) (h .can .reads .low) u, h .can .meant .fits) })
 
   module _ (q : Bool) (w : q ≡ isWrapped wrap d (recordMeant r)) where
     wrapped-head : (t : Term) → At rs src t → isWrapped wrap d (head t) ≡ q
-    wrapped-head t h = ap (isWrapped wrap d) (sym (is-head t h)) ∙ sym w
+    wrapped-head t h = ap (isWrapped wrap d) (sym (got ∙ at-head rs src t h)) ∙ sym w
 
     pub use-fits : CanCopy (moves n wrap code) rs src dst d → q ≡ true → dst + 1 < length rs
     unfolding Meant
@@ -84,7 +81,7 @@ module _ (n : ℕ) (wrap : Bool) (code : ℕ) (rs : List Record) (src dst d : �
     unfolding Meant
     use-copied t x y ex ey rs₁ end o = record {
       does = λ c a u h.
-          let e = is-head u (h .reads .there) in
+          let e = got ∙ at-head rs src u (h .reads .there) in
           let f : recordMeant x ∷ recordMeant y ∷ [] ≡ front (moving n wrap code) d u =
           ap₂ (λ v z. v ∷ z ∷ []) (ex ∙ ap (λ (v : Record). madeRecord 8 (v .fields .type) 0) e) (ey ∙ ap (λ v. typedAs v code) e)
           ∙ sym (front-use n code d wrap u (wrapped-head u (h .reads .there) ∙ t)) in
@@ -96,7 +93,7 @@ module _ (n : ℕ) (wrap : Bool) (code : ℕ) (rs : List Record) (src dst d : �
     unfolding Meant
     root-raised f k ek x ex rs₁ end o = record {
       does = λ c a u h.
-          let e = is-head u (h .reads .there) in
+          let e = got ∙ at-head rs src u (h .reads .there) in
           let g : recordMeant x ∷ [] ≡ front (moving n wrap code) d u =
           ap (λ v. v ∷ []) (ex ∙ (rw (ek, e))) ∙ sym (front-raised n code d wrap u (wrapped-head u (h .reads .there) ∙ f)) in
           rw (h .meant .is) (rw g at o);

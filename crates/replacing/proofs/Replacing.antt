@@ -2,7 +2,7 @@
 use Prim.Native.Nat.{ℕ, _+_, _-_, _≤_, _<_}
 use native.Mathlib.Omega.{arith}
 use native.Mathlib.Decide.{decLt}
-use mathlib.Core.Bool.{Bool, true, false}
+use mathlib.Core.Bool.{Bool, true, false, false≢true}
 use mathlib.Core.Path.{_≡_, sym, ap, _∙_}
 use mathlib.Core.Logic.{_⊎_, inl, inr, ⊎-elim}
 use mathlib.Core.List.{List, [], _∷_}
@@ -23,17 +23,17 @@ use Rattle.replacing.specs.Reading.{Area, Wrote}
 use Rattle.replacing.specs.Roots.{namesRemoved, givesWay, moved, front}
 use Rattle.replacing.specs.Arguments.{Putting, CanPut, Puts}
 use Rattle.replacing.specs.Copying.{replaces, Replaces, Meant, Copying, CanCopy, RootCopies}
-use Rattle.replacing.proofs.Fronts.{untrue, Steady, front-moved, gives-way-head, where-given}
+use Rattle.replacing.proofs.Fronts.{Steady, front-moved, gives-way-head, where-given}
 use Rattle.replacing.proofs.Indices.{size-raised}
 use Rattle.replacing.proofs.Sums.{innermost}
 
 -- Whether an index names a removed binder.
 names-yes : (m d i : ℕ) → namesRemoved m d i ≡ true → (d ≤ i) × (i < d + m)
 names-yes m d i e = elim (decLt i d) [
-  | yes l ↦ absurd (untrue (rw (lt-ltb i d l) at e))
+  | yes l ↦ absurd (false≢true (rw (lt-ltb i d l) at e))
   | no n ↦ elim (decLt i (d + m)) [
     | yes l ↦ (omega arith, l)
-    | no k ↦ absurd (untrue (rw (le-ltb i d (omega arith), le-ltb i (d + m) (omega arith)) at e))
+    | no k ↦ absurd (false≢true (rw (le-ltb i d (omega arith), le-ltb i (d + m) (omega arith)) at e))
   ]
 ]
 
@@ -41,7 +41,7 @@ names-no : (m d i : ℕ) → namesRemoved m d i ≡ false → (i < d) ⊎ ((d �
 names-no m d i e = elim (decLt i d) [
   | yes l ↦ inl l
   | no n ↦ elim (decLt i (d + m)) [
-    | yes l ↦ absurd (untrue (sym (rw (le-ltb i d (omega arith), lt-ltb i (d + m) l) at e)))
+    | yes l ↦ absurd (false≢true (sym (rw (le-ltb i d (omega arith), lt-ltb i (d + m) l) at e)))
     | no k ↦ inr (omega arith, omega arith)
   ]
 ]
@@ -87,17 +87,14 @@ module _ (m : ℕ) (first second : Argument) (c : Change) (a : Area) (rs : List 
 
 -- One law for each thing that the body asks.
 module _ (m : ℕ) (first second : Argument) (rs : List Record) (src dst d : ℕ) (r : CodeRecord) (got : recordMeant r ≡ getD rs src noRecord) (g : Bool) (eg : g ≡ givesWay m d (recordMeant r)) where
-  is-head : (t : Term) → At rs src t → recordMeant r ≡ head t
-  is-head t h = got ∙ at-head rs src t h
-
   given-head : (t : Term) → At rs src t → givesWay m d (head t) ≡ g
-  given-head t h = ap (givesWay m d) (sym (is-head t h)) ∙ sym eg
+  given-head t h = ap (givesWay m d) (sym (got ∙ at-head rs src t h)) ∙ sym eg
 
   module _ (y : g ≡ true) (x : Argument) (ex : x ≡ pick (eqb (r .a) d) first second) where
     put-here : (c : Change) (a : Area) (t : Term) → Copying (replaces m first second) c a rs src dst d t → (u : Term) × (front c d t ≡ preorder (raised d u)) × Putting a rs x dst d u
     unfolding Meant
     put-here c a t h =
-        let e = is-head t (h .reads .there) in
+        let e = got ∙ at-head rs src t (h .reads .there) in
         putting m first second c a rs src dst d x (h .meant) t (given-head t (h .reads .there) ∙ y) (ex ∙ ap (λ (v : Record). pick (eqb (v .fields .a) d) first second) e) h
 
     pub argument-asks : CanCopy (replaces m first second) rs src dst d → CanPut rs x dst d
@@ -111,7 +108,7 @@ module _ (m : ℕ) (first second : Argument) (rs : List Record) (src dst d : ℕ
   unfolding Meant
   root-lowered f x ex rs₁ end o = record {
     does = λ c a t h.
-        let e = is-head t (h .reads .there) in
+        let e = got ∙ at-head rs src t (h .reads .there) in
         let k = h .meant in
         let w : recordMeant x ∷ [] ≡ front (replacing (k .terms)) d t =
         ap (λ v. v ∷ []) (ex ∙ ap (moved (loweredIndex m d)) e) ∙ sym (front-lowered (k .terms) m d (k .given .count) t (given-head t (h .reads .there) ∙ f)) in

@@ -9,7 +9,7 @@ use mathlib.Core.Path.{_≡_, sym, _∙_, ap₂}
 use lib.ListN.{length, getD}
 use Rattle.rules.specs.Lists.{pick}
 use Rattle.rules.specs.Terms.{typeOf, size}
-use Rattle.rules.specs.Types.{Table, entry, noEntry}
+use Rattle.rules.specs.Types.{Table, entry, noEntry, NoTwins}
 use Rattle.rules.specs.Conditions.{met, Holds, same, sameEntry}
 use Rattle.rules.specs.Format.{Record, typeCount, recordCount, tableOf, recordsOf}
 use Rattle.rules.specs.Links.{firstTerm, NoBadLink}
@@ -17,7 +17,7 @@ use Rattle.rules.specs.Refusals.{lowest, badLink}
 use Rattle.rules.specs.Check.{entryRule, refusalOf, refusal, checkAnswer, passing, typeNo, linksRule}
 use Rattle.rules.specs.Meets.{MeetsForm, Meets}
 use Rattle.rules.proofs.General.{is-true, length-listed}
-use Rattle.rules.proofs.Tables.{NoTwins, Distinct, no-twins}
+use Rattle.rules.proofs.Tables.{Distinct, no-twins}
 use Rattle.rules.proofs.Tests.{passes, both-pass, pass-both, holds-unless, unless-holds, holds-lowest, lowest-holds}
 use Rattle.rules.proofs.Sums.{total-zero-at}
 use Rattle.rules.proofs.Tree.{walk-typed, typed-walk, whole-size, tree-type}

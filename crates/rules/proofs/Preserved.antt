@@ -10,13 +10,13 @@ use mir.Facts.{and-yes}
 use Rattle.rules.specs.Kinds.{number, variable, function, fix, lift, quote, splice, application, Ternary, matchVariable, Kind, leaf₀, unary₁, binary₂, ternary₃, kindNumber, kindOf, numbered}
 use Rattle.rules.specs.Terms.{Fields, Term, leaf, unary, binary, ternary, typeOf}
 use Rattle.rules.specs.Binders.{binds₁, binds₃}
-use Rattle.rules.specs.Types.{Table, Entry, Nat, Fn, partA, partB}
+use Rattle.rules.specs.Types.{Table, Entry, Nat, Fn, NoTwins, partA, partB}
 use Rattle.rules.specs.Conditions.{Holds}
 use Rattle.rules.specs.Typing.{Env, under, pattern, Typed}
 use Rattle.rules.specs.Steps.{plain, taking, matched, opened, quoted, Step, in-child, in-first, in-second, in-match, apply, unroll, lifted, succeeds, fails, spliced, Steps, still, more}
 use Rattle.rules.proofs.General.{picked}
 use Rattle.rules.proofs.KindTable.{kind-back}
-use Rattle.rules.proofs.Tables.{NoTwins, entry-in}
+use Rattle.rules.proofs.Tables.{entry-in}
 use Rattle.rules.proofs.Facts.{Has}
 use Rattle.rules.proofs.Moves.{Args, nothing, also, substituted, wrapped-keeps}
 

@@ -4,13 +4,9 @@ use native.Mathlib.Omega.{arith}
 use native.Mathlib.Decide.{decLt}
 use mathlib.Core.Path.{_≡_, ap, sym, _∙_}
 use lib.ListN.{length, getD, List·getD-eq-default}
-use Rattle.rules.specs.Types.{Table, Entry, noEntry, entry}
+use Rattle.rules.specs.Types.{Table, Entry, noEntry, entry, NoTwins}
 use Rattle.rules.specs.Conditions.{Met}
 use Rattle.rules.specs.FieldUses.{isEntry}
-
--- Equal types have equal numbers.
-abbrev pub NoTwins : Table → Type 0
-NoTwins types = (m n : ℕ) (x : Entry) → 0 < x .kind → entry types m ≡ x → entry types n ≡ x → m ≡ n
 
 -- No entry is like another.
 abbrev pub Distinct : Table → Type 0

@@ -39,10 +39,11 @@ pub passing : (r : Rule) → Holds r → T (holds r)
 passing [] h = tt
 passing (c ∷ r) (h, k) = yes-and (met c) (holds r) (passes c h) (passing r k)
 
--- A check that refuses nothing.
-never : {A : Type 0} {x : A} → _≡_ {A = Option A} (some x) none → ⊥
+-- An option that gives something gives not nothing.
+pub never : {A : Type 0} {x : A} → _≡_ {A = Option A} (some x) none → ⊥
 never e = let z : _≡_ {A = ℕ} 0 1 = cc in omega arith
 
+-- A check that refuses nothing.
 pub both-pass : (x y : Option Refusal) → x then y ≡ none → (x ≡ none) × (y ≡ none)
 unfolding _then_
 both-pass none y e = (refl, e)

@@ -8,7 +8,7 @@ use mathlib.Core.Logic.{_⊎_, inl, inr}
 use lib.Dec.{T, T-not, ltb, ltb→lt, nltb→le}
 use lib.ListN.{length}
 use Rattle.rules.specs.Terms.{Term, size, typeOf}
-use Rattle.rules.specs.Types.{Table}
+use Rattle.rules.specs.Types.{Table, NoTwins}
 use Rattle.rules.specs.Typing.{Typed}
 use Rattle.rules.specs.Steps.{value, Step, Steps, still, more}
 use Rattle.rules.specs.Next.{next}
@@ -18,7 +18,6 @@ use Rattle.rules.specs.Meets.{Meets}
 use Rattle.rules.specs.Run.{Ending, valued, spent, full, Outcome, ended, oneMore, run, outcome, runRefusal, runAnswer, runOutput}
 use Rattle.rules.specs.WholeRun.{Passed, Overfull, Ends, EachTo, Makes, WholeRun, Demand3}
 use Rattle.rules.proofs.General.{tested, tested-option}
-use Rattle.rules.proofs.Tables.{NoTwins}
 use Rattle.rules.proofs.Preserved.{preserved, run-preserved}
 use Rattle.rules.proofs.Tests.{both-pass, holds-unless}
 use Rattle.rules.proofs.Agree.{agree, deterministic, rests}
@@ -104,13 +103,13 @@ module _ (program : List ℕ) (m : Meets program) (fuel : ℕ) where
   program-run = whole (tableOf program) no-twins (λ t. term-passed (tableOf program) t (passed-table program m))
       fuel (firstTerm program) (m .form .typed) (omega (arith, root-size program m, m .counts .1 .0))
 
-  last-typed : Typed (tableOf program) [] 0 (outcome program fuel .last) × (typeOf (outcome program fuel .last) ≡ typeOf (firstTerm program))
+  pub last-typed : Typed (tableOf program) [] 0 (outcome program fuel .last) × (typeOf (outcome program fuel .last) ≡ typeOf (firstTerm program))
   last-typed = run-preserved (tableOf program) no-twins (program-run .makes .made) [] (m .form .typed)
 
   pub last-type : typeOf (outcome program fuel .last) ≡ typeOf (firstTerm program)
   last-type = last-typed .1
 
-  last-small : size (outcome program fuel .last) ≤ 2048
+  pub last-small : size (outcome program fuel .last) ≤ 2048
   last-small = program-run .makes .small (outcome program fuel .steps) (outcome program fuel .last) (omega arith) (program-run .makes .made)
 
 -- Demand 3: every accepted run, whatever the buffers hold.

@@ -59,14 +59,15 @@ fields-fit types Γ (ternary₃ (matchShape matchLift)) f few low (t, (a, (b, (v
 fields-fit types Γ (ternary₃ (matchShape matchFunction)) f few low (t, (a, (b, (v, _)))) i = omega arith
 fields-fit types Γ (ternary₃ (matchShape matchFix)) f few low (t, (a, (b, (v, _)))) i = omega arith
 
-binds-one : (k : Unary) (f : Fields) → length (binds₁ k f) ≤ 1
+-- A node binds one variable at most in its only child, and two in a match's success branch.
+pub binds-one : (k : Unary) (f : Fields) → length (binds₁ k f) ≤ 1
 binds-one function f = omega arith
 binds-one fix f = omega arith
 binds-one lift f = omega arith
 binds-one quote f = omega arith
 binds-one splice f = omega arith
 
-binds-two : (k : Ternary) (f : Fields) → length (binds₃ k f) ≤ 2
+pub binds-two : (k : Ternary) (f : Fields) → length (binds₃ k f) ≤ 2
 binds-two matchVariable f = omega arith
 binds-two (matchShape matchNumber) f = omega arith
 binds-two (matchShape matchApplication) f = omega arith
@@ -74,7 +75,7 @@ binds-two (matchShape matchLift) f = omega arith
 binds-two (matchShape matchFunction) f = omega arith
 binds-two (matchShape matchFix) f = omega arith
 
-under-length : (l : ℕ) (ns : List ℕ) (Γ : Env) → length (under l ns Γ) ≡ length ns + length Γ
+pub under-length : (l : ℕ) (ns : List ℕ) (Γ : Env) → length (under l ns Γ) ≡ length ns + length Γ
 under-length l ns Γ = rw (length-append, length-map)
 
 module _ (types : Table) (few : length types < 257) where

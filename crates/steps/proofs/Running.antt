@@ -2,11 +2,10 @@
 use mathlib.Core.List.{List, []}
 use mathlib.Core.Path.{_≡_}
 use Rattle.rules.specs.Terms.{Term, typeOf}
-use Rattle.rules.specs.Types.{Table}
+use Rattle.rules.specs.Types.{Table, NoTwins}
 use Rattle.rules.specs.Format.{Record}
 use Rattle.rules.specs.Links.{rootTree}
 use Rattle.rules.specs.Meets.{MeetsForm}
-use Rattle.rules.proofs.Tables.{NoTwins}
 use Rattle.rules.proofs.Agree.{agree}
 use Rattle.rules.proofs.Preserved.{preserved}
 use Rattle.steps.specs.declared.state.State.{State}

@@ -1,7 +1,7 @@
 -- `is_plain_at`: the laws of its loop, which goes through a tree as `skip` does and stops at a kind that no plain tree has. `scanning` for search.
 use Prim.Native.Nat.{ℕ, _+_, _-_, _≤_, _<_}
 use mathlib.Core.Path.{_≡_, refl, sym, ap, _∙_}
-use mathlib.Core.Bool.{Bool, true, false, _&&_}
+use mathlib.Core.Bool.{Bool, true, false, _&&_, and-true, and-assoc}
 use mathlib.Core.List.{List, [], _∷_, _++_}
 use lib.ListN.{getD}
 use Rattle.rules.specs.Kinds.{childCount, kindOf}
@@ -17,14 +17,6 @@ use Rattle.terms.proofs.Forests.{forest-first, Left, left-one, left-non
 unfoldable pub plains : List Term → Bool
 plains [] = true
 plains (t ∷ ts) = plain t && plains ts
-
-and-true : (a : Bool) → a && true ≡ a
-and-true true = refl
-and-true false = refl
-
-and-assoc : (a b c : Bool) → (a && b) && c ≡ a && (b && c)
-and-assoc true b c = refl
-and-assoc false b c = refl
 
 plains-append : (ts us : List Term) → plains (ts ++ us) ≡ plains ts && plains us
 unfolding plains
