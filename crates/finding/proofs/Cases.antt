@@ -1,12 +1,12 @@
 -- What a search finds in a stored tree, by the number of children that the tree's root steps.
-use Prim.Native.Nat.{ℕ, _+_, _≤_}
+use Prim.Native.Nat.{ℕ, _+_}
 use native.Mathlib.Omega.{arith}
 use mathlib.Core.Path.{_≡_, refl, sym, ap, _∙_}
 use mathlib.Core.Bool.{Bool, true, false, not}
 use mathlib.Core.List.{List}
 use lib.Dec.{T, T-not, eqb}
 use Rattle.rules.specs.Lists.{pick}
-use Rattle.rules.specs.Kinds.{Unary, function, fix, lift, quote, splice, Kind, leaf₀, unary₁, binary₂, ternary₃, kindOf}
+use Rattle.rules.specs.Kinds.{Unary, function, fix, lift, quote, splice, unary₁, kindOf}
 use Rattle.rules.specs.Terms.{Term, leaf, unary, binary, ternary, rootKind, size}
 use Rattle.rules.specs.Format.{Record}
 use Rattle.rules.specs.Typing.{level₁, firstLevel}
@@ -25,12 +25,6 @@ pub data Case (rs : List Record) (l i : ℕ) (t : Term) (m : ℕ) (b : Bool) : �
   none : find l t i ≡ Done (i + size t) → Case rs l i t m b 0
   one : (u : Term) → At rs (i + 1) u → find l t i ≡ orHere (find m u (i + 1)) b i → Case rs l i t m b 1
   two : (u v : Term) → At rs (i + 1) u → At rs (i + 1 + size u) v → m ≡ l → find l t i ≡ orElse (find l u (i + 1)) (orHere (find l v (i + 1 + size u)) b i) → Case rs l i t m b 2
-
--- A root steps two children at most.
-pub two-left : {rs : List Record} {l i : ℕ} {t : Term} {m : ℕ} {b : Bool} {s : ℕ} → Case rs l i t m b s → (s ≡ 0 → ⊥) → (s ≡ 1 → ⊥) → Case rs l i t m b 2
-two-left (none r) z o = absurd (z refl)
-two-left (one u h r) z o = absurd (o refl)
-two-left (two u v h j n r) z o = two u v h j n r
 
 -- The root, after a search that ends where the tree does.
 root-after : (x : Found) (b : Bool) (i n : ℕ) → (T (not b) → EndsAt n x) → orElse x (pick b (Redex i) (Done n)) ≡ orHere x b i
@@ -67,14 +61,3 @@ case rs l i (ternary k f t s e) h = first-case rs l i (ternary k f t s e) l (eqb
 -- The kind that was read is the root's.
 pub seen : (rs : List Record) (l i k : ℕ) → KindAt rs i k → (t : Term) → At rs i t → Case rs l i t (firstLevel (kindOf k) l) (contracts l (kindOf k)) (stepping l (kindOf k))
 seen rs l i k a t h = rw (ap kindOf (a .is t h) ∙ kind-back (rootKind t)) (case rs l i t h)
-
--- Children stand at level 0 or 1.
-pub first-low : (l : ℕ) → l ≤ 1 → (k : Kind) → firstLevel k l ≤ 1
-first-low l b (leaf₀ k) = b
-first-low l b (unary₁ function) = b
-first-low l b (unary₁ fix) = b
-first-low l b (unary₁ lift) = b
-first-low l b (unary₁ quote) = omega arith
-first-low l b (unary₁ splice) = omega arith
-first-low l b (binary₂ k) = b
-first-low l b (ternary₃ k) = b

@@ -4,7 +4,7 @@ pub mod Ends
 pub mod Zooms
 pub mod Located
 pub mod Cases
-pub mod Searching
 pub mod Next
 pub mod Stored
 pub mod Scanning
+pub mod Descending

@@ -1,6 +1,6 @@
 -- `first_splice`: the laws of its loop, which goes through a tree as `skip` does and stops at a splice; and what `find1` makes of its answer.
 -- `scanning` and `splicing` for search.
-use Prim.Native.Nat.{ℕ, _+_, _-_, _^_, _≤_, _<_}
+use Prim.Native.Nat.{ℕ, _+_, _-_, _*_, _^_, _≤_, _<_}
 use native.Mathlib.Omega.{arith}
 use mathlib.Core.Path.{_≡_, refl, sym, ap, subst, _∙_}
 use mathlib.Core.Bool.{Bool, true, false}
@@ -178,7 +178,7 @@ module _ (rs : List Record) (i p : ℕ) (x : Found) (f : FindsSplice rs i x) (e 
   splice-in : HasTree rs i → (i ≤ p) × (p < length rs)
   splice-in h = let s = told splice-here (h .tree) (h .there) in (s .after, at-first rs p _ (s .there))
 
-  pub splice-falls : (m : ℕ) → length rs - i ≡ m → HasTree rs i → length rs - (p + 1) < m
+  pub splice-falls : (m : ℕ) → 2 * (length rs - i) ≡ m → HasTree rs i → 2 * (length rs - (p + 1)) + 1 < m
   splice-falls m g h = let (a, b) = splice-in h in omega arith
 
   pub found-splice : (y : Found) → Finds 0 rs (p + 1) y → (r : Found) → r ≡ orHere y true p → Finds 1 rs i r

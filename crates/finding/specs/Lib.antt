@@ -2,3 +2,4 @@
 pub mod Contraction
 pub mod Finding
 pub mod Zoom
+pub mod Descent

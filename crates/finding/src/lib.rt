@@ -5,6 +5,7 @@ ghost use Rattle.records.specs.View.{recordsIn};
 ghost use Rattle.terms.specs.Preorder.{HasTree};
 ghost use Rattle.finding.specs.Contraction.{contracts};
 ghost use Rattle.finding.specs.Finding.{orHere, KindAt, Finds, FindsSplice};
+ghost use Rattle.finding.specs.Descent.{HasUnwritten, HasRewritten, LastStepped};
 
 // What a search of a tree finds: nothing to step, and the place after the tree; or the place of the record that the rules rewrite.
 pub enum Found {
@@ -57,28 +58,53 @@ fn or_here(inside: Found, rewritten: bool, i: usize) -> Found
     }
 }
 
-// What is found in the tree at `i`, at level 0. A quote's child is searched at level 1.
+// What is found at level 0 in the tree at `i`, whose root isn't rewritten. A quote's child is searched at level 1.
+fn find_at_rest(w: &[u8], i: usize) -> Found
+    requires { ⌜ HasUnwritten (recordsIn (now w)) i ⌝ }
+    ensures { λ r. ⌜ Finds 0 (recordsIn (now (w .entry))) i r ⌝ }
+{
+    if rules::first_level(kind_at(w, i), 0) == 1 {
+        return find1(w, i + 1);
+    }
+    Found::Done(terms::skip(w, i))
+}
+
+// Of the root at `i`, which is rewritten once the children that it steps are done: what is found in a child before the last of them; or else
+// `Done`, with the place of the last.
+fn last_stepped(w: &[u8], i: usize, kind: u16) -> Found
+    requires { ⌜ HasRewritten (recordsIn (now w)) i kind ⌝ }
+    ensures { λ r. ⌜ LastStepped (recordsIn (now (w .entry))) i r ⌝ }
+{
+    if rules::stepping_at_zero(kind) == 2 {
+        return find0(w, i + 1);
+    }
+    Found::Done(i + 1)
+}
+
+// What is found in the tree at `i`, at level 0: the search goes down to the child that each root steps last, and where nothing is found there
+// the innermost root that it passed is rewritten.
 pub fn find0(w: &[u8], i: usize) -> Found
     requires { ⌜ HasTree (recordsIn (now w)) i ⌝ }
     ensures { λ r. ⌜ Finds 0 (recordsIn (now (w .entry))) i r ⌝ }
 {
-    let kind = kind_at(w, i);
-    let stepped = rules::stepping_at_zero(kind);
-    if stepped == 0 {
-        return Found::Done(terms::skip(w, i));
+    let mut at = i;
+    let mut passed = i;
+    let mut any = false;
+    let mut kind = kind_at(w, i);
+    while contracts_at_zero(kind) {
+        match last_stepped(w, at, kind) {
+            Found::Redex(p) => {
+                return Found::Redex(p);
+            }
+            Found::Done(e) => {
+                passed = at;
+                any = true;
+                at = e;
+            }
+        }
+        kind = kind_at(w, at);
     }
-    let rewritten = contracts_at_zero(kind);
-    if rules::first_level(kind, 0) == 1 {
-        return or_here(find1(w, i + 1), rewritten, i);
-    }
-    let first = find0(w, i + 1);
-    if stepped == 1 {
-        return or_here(first, rewritten, i);
-    }
-    match first {
-        Found::Redex(p) => Found::Redex(p),
-        Found::Done(e) => or_here(find0(w, e), rewritten, i),
-    }
+    or_here(find_at_rest(w, at), any, passed)
 }
 
 // The place of the first splice that stands at level 1 in the tree at `i`; or else `Done`, with the place after the tree. No other kind that

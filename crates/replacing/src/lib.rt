@@ -3,7 +3,6 @@ ghost use mathlib.Core.Path.{_≡_};
 ghost use Prim.Native.Nat.{_+_, _<_, _≤_};
 ghost use mathlib.Core.List.{[], _∷_};
 ghost use lib.ListN.{length};
-ghost use lib.Dec.{ltb};
 ghost use Rattle.rules.specs.Lists.{pick};
 ghost use Rattle.rules.specs.Indices.{raisedIndex, loweredIndex};
 ghost use Rattle.records.specs.View.{recordsIn};
