@@ -1,0 +1,66 @@
+//! An engine for document 01, written from its text: an owned tree that is rewritten in place.
+pub mod format;
+mod run;
+mod steps;
+mod substitution;
+mod term;
+#[cfg(test)]
+mod tests;
+mod typing;
+
+use format::Program;
+
+/// The buffers of a run have at least these lengths.
+pub const OUTPUT: usize = 34_308;
+pub const WORK: usize = 65_536;
+
+#[derive(Clone, Copy, Debug, PartialEq, Eq)]
+pub struct Refusal {
+    pub number: u32,
+    pub place: u32,
+}
+
+#[derive(Clone, Copy, Debug, PartialEq, Eq)]
+pub struct Passed {
+    pub root_type: u32,
+    pub records: u32,
+}
+
+#[derive(Clone, Copy, Debug, PartialEq, Eq)]
+pub enum Ending {
+    Value,
+    Spent,
+    Full,
+}
+
+#[derive(Clone, Copy, Debug, PartialEq, Eq)]
+pub struct Ran {
+    pub ending: Ending,
+    pub steps: u32,
+    pub root_type: u32,
+    pub written: usize,
+}
+
+/// Checks a program: refusals 3 to 12.
+pub fn check(program: &[u8]) -> Result<Passed, Refusal> {
+    let program = accept(program)?;
+    Ok(Passed { root_type: program.record(1).ty.into(), records: program.records.len() as u32 })
+}
+
+/// Runs a program with the fuel and writes the last term. Of the work buffer only the length matters.
+pub fn run(program: &[u8], fuel: u32, output: &mut [u8], work: &mut [u8]) -> Result<Ran, Refusal> {
+    if output.len() < OUTPUT {
+        return Err(Refusal { number: 1, place: 0 });
+    }
+    if work.len() < WORK {
+        return Err(Refusal { number: 2, place: 0 });
+    }
+    let program = accept(program)?;
+    Ok(run::run(&program, fuel, output))
+}
+
+fn accept(program: &[u8]) -> Result<Program, Refusal> {
+    let program = format::parse(program)?;
+    typing::check(&program)?;
+    Ok(program)
+}

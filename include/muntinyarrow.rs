@@ -1,0 +1,95 @@
+//! Muntinyarrow for Rust: a safe wrapper of libengine.a. Any slices may be given; the engine looks at their lengths itself.
+//! The calls keep no state: any number of them may go on at once, each with its own buffers.
+
+/// The buffers that a run is lent have at least these lengths; shorter ones are refused, by 1 and 2.
+pub const OUTPUT: usize = 34_308;
+pub const WORK: usize = 65_536;
+
+/// Document 01's number of a refusal, 1 to 12, and its place.
+#[derive(Clone, Copy, Debug, PartialEq, Eq)]
+pub struct Refusal {
+    pub number: u32,
+    pub place: u32,
+}
+
+/// What check says of a program that is passed.
+#[derive(Clone, Copy, Debug, PartialEq, Eq)]
+pub struct Passed {
+    pub root_type: u32,
+    pub records: u32,
+}
+
+#[derive(Clone, Copy, Debug, PartialEq, Eq)]
+pub enum Ending {
+    Value,
+    Spent,
+    Full,
+}
+
+/// What an accepted run answers: `written` is the length of the program at the start of the output.
+#[derive(Clone, Copy, Debug, PartialEq, Eq)]
+pub struct Ran {
+    pub ending: Ending,
+    pub steps: u32,
+    pub root_type: u32,
+    pub written: usize,
+}
+
+/// Checks a program of any bytes.
+pub fn check(program: &[u8]) -> Result<Passed, Refusal> {
+    // SAFETY: pointer and length are those of a slice that is borrowed during the call, which only reads it.
+    let answer = unsafe { muntinyarrow_check(program.as_ptr(), program.len()) };
+    if answer.number != 0 {
+        return Err(Refusal { number: answer.number, place: answer.place });
+    }
+    Ok(Passed { root_type: answer.root_type, records: answer.records })
+}
+
+/// Runs a program of any bytes with the fuel. Output beyond the written length stays, and both buffers do where the run is refused.
+/// The first 65,536 bytes of the work buffer are then free.
+pub fn run(program: &[u8], fuel: u32, output: &mut [u8], work: &mut [u8]) -> Result<Ran, Refusal> {
+    // SAFETY: each pointer and length are those of a slice; the two that are written are borrowed mutably, and so are apart from all others.
+    let answer = unsafe {
+        muntinyarrow_run(program.as_ptr(), program.len(), fuel, output.as_mut_ptr(), output.len(), work.as_mut_ptr(), work.len())
+    };
+    if answer.number != 0 {
+        return Err(Refusal { number: answer.number, place: answer.place });
+    }
+    let ending = match answer.ending {
+        1 => Ending::Value,
+        2 => Ending::Spent,
+        _ => Ending::Full,
+    };
+    Ok(Ran { ending, steps: answer.steps, root_type: answer.root_type, written: answer.written as usize })
+}
+
+#[repr(C)]
+struct CheckAnswer {
+    number: u32,
+    place: u32,
+    root_type: u32,
+    records: u32,
+}
+
+#[repr(C)]
+struct RunAnswer {
+    number: u32,
+    place: u32,
+    ending: u32,
+    steps: u32,
+    root_type: u32,
+    written: u32,
+}
+
+extern "C" {
+    fn muntinyarrow_check(program: *const u8, length: usize) -> CheckAnswer;
+    fn muntinyarrow_run(
+        program: *const u8,
+        length: usize,
+        fuel: u32,
+        output: *mut u8,
+        output_length: usize,
+        work: *mut u8,
+        work_length: usize,
+    ) -> RunAnswer;
+}
