@@ -1,5 +1,5 @@
 -- `plan_match`: a law for each thing that its body asks. `outcomes` for search.
-use Prim.Native.Nat.{ℕ, _+_}
+use Prim.Native.Nat.{ℕ, _+_, _-_, _≤_}
 use native.Mathlib.Omega.{arith}
 use mathlib.Core.List.{List}
 use mathlib.Core.Bool.{Bool, true, false}
@@ -48,24 +48,37 @@ module _ (types : Table) (rs : List Record) (p : ℕ) where
       unfolding At
       failure-at m h = rw (failure-place m h) (h .4)
 
+      pub success-up : HasMatch types rs p → s ≤ e
+      success-up v = omega (arith, kf .is (v .match .success) (success-at (v .match) (v .there)))
+
       pub failure-there : HasMatch types rs p → HasTree rs e
       failure-there v = record { tree = v .match .failure; there = failure-at (v .match) (v .there) }
+
+      pub failure-up : (end : ℕ) → Skips rs e end → HasMatch types rs p → e ≤ end
+      failure-up end ke v = omega (arith, ke .is (v .match .failure) (failure-at (v .match) (v .there)))
 
       module _ (end : ℕ) (ke : Skips rs e end) (b : Bool) (tells : TellsMatch types rs p b) where
         match-end : (m : Match) → At rs p (matchTerm m) → end ≡ p + size (matchTerm m)
         unfolding size
         match-end m h = omega (arith, failure-place m h, ke .is (m .failure) (failure-at m h))
 
-        pub can-succeed : b ≡ true → HasMatch types rs p → CanSucceed types rs p s end
-        can-succeed y v = let (ts, q) = something (taken types (v .match)) (sym y ∙ tells .is (v .match) (v .there)) in record { has = v; bound = ts; matches = q; success = ks; after = match-end }
+        pub can-succeed : b ≡ true → HasMatch types rs p → CanSucceed types rs p s (e - s) end
+        can-succeed y v = let (ts, q) = something (taken types (v .match)) (sym y ∙ tells .is (v .match) (v .there)) in record {
+          has = v;
+          bound = ts;
+          matches = q;
+          success = ks;
+          long = λ m h. omega (arith, kf .is (m .success) (success-at m h));
+          after = match-end;
+        }
 
-        pub match-fails : b ≡ false → (q : Plan) → q ≡ asItIs e end → PlansMatch types rs p q
+        pub match-fails : b ≡ false → (q : Plan) → q ≡ asItIs e (end - e) end → PlansMatch types rs p q
         match-fails y q eq = record {
           is = λ m h.
               let t = unary quote (m .fieldsOfQuote) (m .code) in
               let o = match-end m h in
               let lost = third-of-three rs p end p e (m .kind) (m .fields) t (m .success) (m .failure) (whole rs p end (matchTerm m) h o) (failure-place m h) in
-              rw (eq, nothing (taken types m) (sym y ∙ tells .is m h)) (itself-planned o lost);
+              rw (eq, nothing (taken types m) (sym y ∙ tells .is m h)) (itself-planned o lost (omega (arith, ke .is (m .failure) (failure-at m h))));
         }
 
   pub match-succeeds : (b : Bool) → TellsMatch types rs p b → b ≡ true → (q : Plan) → PlansSuccess types rs p q → PlansMatch types rs p q
@@ -73,4 +86,4 @@ module _ (types : Table) (rs : List Record) (p : ℕ) where
     is = λ m h. let (ts, e) = something (taken types m) (sym y ∙ tells .is m h) in rw e (plans .is m ts h e);
   }
 
-pub ruleset outcomes = (quote-there, success-there, failure-there, can-succeed, match-fails, match-succeeds)
+pub ruleset outcomes = (quote-there, success-there, success-up, failure-there, failure-up, can-succeed, match-fails, match-succeeds)

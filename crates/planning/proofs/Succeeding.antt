@@ -33,13 +33,13 @@ test-gave : (b : Bool) (ts us : List Term) → pick b (some ts) none ≡ some us
 test-gave true ts us e = cc
 test-gave false ts us e = let z : _≡_ {A = ℕ} 0 1 = cc in absurd (omega arith)
 
--- The record x of the match is read; its success is at s, and `end` is the place after it.
-module _ (types : Table) (rs : List Record) (p s end : ℕ) (x : Read) (ex : recordMeant x ≡ getD rs p noRecord) where
+-- The record x of the match is read; its success, of n records, is at s, and `end` is the place after the match.
+module _ (types : Table) (rs : List Record) (p s n end : ℕ) (x : Read) (ex : recordMeant x ≡ getD rs p noRecord) where
   candidate-by : (i : ℕ) → x .kind ≡ i → (m : Match) (ts : List Term) → At rs p (matchTerm m) → taken types m ≡ some ts → Candidate i (m .kind) (m .code)
   candidate-by i w m ts h e =
       subst (λ i. Candidate i (m .kind) (m .code)) (sym (kind-read rs p m h x ex) ∙ w) (candidate (m .kind) (m .code) (matched-sought types (m .kind) (m .fields) (m .code) ts e))
 
-  pub function-there : CanSucceed types rs p s end → x .kind ≡ 11 → HasTree rs (p + 3)
+  pub function-there : CanSucceed types rs p s n end → x .kind ≡ 11 → HasTree rs (p + 3)
   unfolding At
   function-there v w = go (candidate-by 11 w (v .has .match) (v .bound) (v .has .there) (v .matches)) (code-there rs p (v .has .match) (v .has .there))
     where
@@ -50,9 +50,9 @@ module _ (types : Table) (rs : List Record) (p s end : ℕ) (x : Read) (ex : rec
   abbrev Right : ℕ → Plan → Type 0
   Right i q =
       (k : Ternary) (c : Term) → Candidate i k c → (ts : List Term) → matched types k (recordMeant x .fields) c ≡ some ts → (r b : Term) → end ≡ p + size r
-      → Inside rs p end (p + 2) c → Inside rs p end s b → Planned rs p q r (replaced ts b)
+      → Inside rs p end (p + 2) c → Inside rs p end s b → n ≡ size b → Planned rs p q r (replaced ts b)
 
-  module _ (v : CanSucceed types rs p s end) where
+  module _ (v : CanSucceed types rs p s n end) where
     planned-by : (i : ℕ) (q plan : Plan) → x .kind ≡ i → q ≡ plan → Right i plan → PlansSuccess types rs p q
     unfolding size
     planned-by i q plan w eq right = record {
@@ -64,30 +64,30 @@ module _ (types : Table) (rs : List Record) (p s end : ℕ) (x : Read) (ex : rec
           let code = only-child rs p end (p + 1) (p + 2) quote (m .fieldsOfQuote) (m .code) (omega arith) over in
           let won = second-of-three rs p end p s (m .kind) (m .fields) t (m .success) (m .failure) all (v .success .is t (over .there)) in
           let known = ap (λ f. matched types (m .kind) f (m .code)) (fields-read rs p m h x ex) ∙ e in
-          subst (λ q. Planned rs p q (matchTerm m) (replaced ts (m .success))) (sym eq) (right (m .kind) (m .code) (candidate-by i w m ts h e) ts known (matchTerm m) (m .success) o code won);
+          subst (λ q. Planned rs p q (matchTerm m) (replaced ts (m .success))) (sym eq) (right (m .kind) (m .code) (candidate-by i w m ts h e) ts known (matchTerm m) (m .success) o code won (v .long m h));
     }
 
-    pub success-of-application : (a : ℕ) (g h : Argument) (q : Plan) → x .kind ≡ 11 → Skips rs (p + 3) a → g ≡ quoteAt (x .b) a → h ≡ quoteAt (x .a) (p + 3) → q ≡ withTwo s g h end → PlansSuccess types rs p q
+    pub success-of-application : (a : ℕ) (g h : Argument) (q : Plan) → x .kind ≡ 11 → Skips rs (p + 3) a → g ≡ quoteAt (x .b) a → h ≡ quoteAt (x .a) (p + 3) → q ≡ withTwo s n g h end → PlansSuccess types rs p q
     unfolding matched
-    success-of-application a g h q w ka eg eh eq = planned-by 11 q (withTwo s (quoteAt (x .b) a) (quoteAt (x .a) (p + 3)) end) w (eq ∙ ap₂ (λ g h. withTwo s g h end) eg eh) go
+    success-of-application a g h q w ka eg eh eq = planned-by 11 q (withTwo s n (quoteAt (x .b) a) (quoteAt (x .a) (p + 3)) end) w (eq ∙ ap₂ (λ g h. withTwo s n g h end) eg eh) go
       where
-        go : Right 11 (withTwo s (quoteAt (x .b) a) (quoteAt (x .a) (p + 3)) end)
-        go k c (an-application f t u) ts e r b o code won =
+        go : Right 11 (withTwo s n (quoteAt (x .b) a) (quoteAt (x .a) (p + 3)) end)
+        go k c (an-application f t u) ts e r b o code won long =
             let first = first-of-two rs p end (p + 2) (p + 3) application f t u code (omega arith) in
             let y : a ≡ p + 3 + size t = ka .is t (first .there) in
             let second = second-of-two rs p end (p + 2) a application f t u code (omega arith) in
-            subst (λ ts. Planned rs p (withTwo s (quoteAt (x .b) a) (quoteAt (x .a) (p + 3)) end) r (replaced ts b))
+            subst (λ ts. Planned rs p (withTwo s n (quoteAt (x .b) a) (quoteAt (x .a) (p + 3)) end) r (replaced ts b))
             (test-gave (eqb (typeOf u) (partA types (x .b))) (quoted (x .b) u ∷ quoted (x .a) t ∷ []) ts e)
-            (two-planned o won (quote-stands second (x .b)) (quote-stands first (x .a)))
+            (two-planned o won long (quote-stands second (x .b)) (quote-stands first (x .a)))
 
     -- A match that binds one variable: g stands for what a match of kind i binds.
     abbrev Binds : ℕ → Argument → Type 0
     Binds i g = (k : Ternary) (c : Term) → Candidate i k c → Inside rs p end (p + 2) c → (ts : List Term) → matched types k (recordMeant x .fields) c ≡ some ts → (t : Term) × (t ∷ [] ≡ ts) × StandsFor rs p end g t
 
-    module _ (g : Argument) (q : Plan) (eq : q ≡ withOne s g end) where
+    module _ (g : Argument) (q : Plan) (eq : q ≡ withOne s n g end) where
       one-by : (i : ℕ) (h : Argument) → x .kind ≡ i → g ≡ h → Binds i h → PlansSuccess types rs p q
-      one-by i h w eg binds = planned-by i q (withOne s h end) w (eq ∙ ap (λ g. withOne s g end) eg)
-          (λ k c z ts e r b o code won. let (t, y, stands) = binds k c z code ts e in subst (λ ts. Planned rs p (withOne s h end) r (replaced ts b)) y (one-planned o won stands))
+      one-by i h w eg binds = planned-by i q (withOne s n h end) w (eq ∙ ap (λ g. withOne s n g end) eg)
+          (λ k c z ts e r b o code won long. let (t, y, stands) = binds k c z code ts e in subst (λ ts. Planned rs p (withOne s n h end) r (replaced ts b)) y (one-planned o won long stands))
 
       pub success-of-lift : x .kind ≡ 12 → g ≡ treeAt (p + 2) → PlansSuccess types rs p q
       unfolding matched
@@ -112,10 +112,10 @@ module _ (types : Table) (rs : List Record) (p s end : ℕ) (x : Read) (ex : rec
           go k c (a-fix f t) code ts e = (quoted (x .a) t, test-gave true (quoted (x .a) t ∷ []) ts e, quote-stands (only-child rs p end (p + 2) (p + 3) fix f t (omega arith) code) (x .a))
 
     -- A match that binds nothing.
-    pub success-binds-none : (q : Plan) → (x .kind ≡ 11 → ⊥) → (x .kind ≡ 12 → ⊥) → (x .kind ≡ 13 → ⊥) → (x .kind ≡ 14 → ⊥) → q ≡ asItIs s end → PlansSuccess types rs p q
+    pub success-binds-none : (q : Plan) → (x .kind ≡ 11 → ⊥) → (x .kind ≡ 12 → ⊥) → (x .kind ≡ 13 → ⊥) → (x .kind ≡ 14 → ⊥) → q ≡ asItIs s n end → PlansSuccess types rs p q
     unfolding matched
-    success-binds-none q a l f y eq = planned-by (x .kind) q (asItIs s end) refl eq
-        (λ k c z ts e r b o code won. subst (λ ts. Planned rs p (asItIs s end) r (replaced ts b)) (go (x .kind) k c a l f y z ts e) (rw (replaced-none b) (itself-planned o won)))
+    success-binds-none q a l f y eq = planned-by (x .kind) q (asItIs s n end) refl eq
+        (λ k c z ts e r b o code won long. subst (λ ts. Planned rs p (asItIs s n end) r (replaced ts b)) (go (x .kind) k c a l f y z ts e) (rw (replaced-none b) (itself-planned o won long)))
       where
         go : (i : ℕ) (k : Ternary) (c : Term) → (i ≡ 11 → ⊥) → (i ≡ 12 → ⊥) → (i ≡ 13 → ⊥) → (i ≡ 14 → ⊥) → Candidate i k c → (ts : List Term) → matched types k (recordMeant x .fields) c ≡ some ts → [] ≡ ts
         go i k c a l f y (same-number g) ts e = test-gave (eqb (g .value) (x .value)) [] ts e

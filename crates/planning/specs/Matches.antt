@@ -67,12 +67,14 @@ pub record PlansMatch (types : Table) (rs : List Record) (p : ℕ) (q : Plan) : 
 pub record TellsMatch (types : Table) (rs : List Record) (p : ℕ) (b : Bool) : Type 0 where
   pub is : (m : Match) → At rs p (matchTerm m) → b ≡ isSome (taken types m)
 
--- It matches its code; its success stands at s, and `end` is the place after it. q is the plan of its success, with its variables replaced.
-pub record CanSucceed (types : Table) (rs : List Record) (p s end : ℕ) : Type 0 where
+-- It matches its code; its success, of n records, stands at s, and `end` is the place after the match. q is the plan of its success, with its
+-- variables replaced.
+pub record CanSucceed (types : Table) (rs : List Record) (p s n end : ℕ) : Type 0 where
   pub has : HasMatch types rs p
   pub bound : List Term
   pub matches : taken types (has .match) ≡ some bound
   pub success : Skips rs (p + 1) s
+  pub long : (m : Match) → At rs p (matchTerm m) → n ≡ size (m .success)
   pub after : (m : Match) → At rs p (matchTerm m) → end ≡ p + size (matchTerm m)
 
 pub record PlansSuccess (types : Table) (rs : List Record) (p : ℕ) (q : Plan) : Type 0 where

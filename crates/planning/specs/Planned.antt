@@ -33,15 +33,16 @@ pub record Arguments (rs : List Record) (p : ℕ) (q : Plan) (ts : List Term) : 
   pub count : length ts ≡ q .m
   pub each : (j : ℕ) (z : Term) → j < q .m → StandsFor rs p (q .end) (pick (eqb j 0) (q .first) (q .second)) (getD ts j z)
 
--- What is made, by the plan's form.
+-- What is made, by the plan's form; the plan tells how many records the tree at its place has.
 pub data Made (rs : List Record) (p : ℕ) (q : Plan) (r′ : Term) : ℕ → Type 0 where
-  itself : Inside rs p (q .end) (q .at) r′ → Made rs p q r′ 0
-  replacing : (body : Term) (ts : List Term) → Inside rs p (q .end) (q .at) body → Arguments rs p q ts → r′ ≡ replaced ts body → Made rs p q r′ 1
+  itself : Inside rs p (q .end) (q .at) r′ → q .size ≡ size r′ → Made rs p q r′ 0
+  replacing : (body : Term) (ts : List Term) → Inside rs p (q .end) (q .at) body → q .size ≡ size body → Arguments rs p q ts → r′ ≡ replaced ts body → Made rs p q r′ 1
   anew : StandsFor rs p (q .end) (q .first) r′ → Made rs p q r′ 2
 
 -- What a form doesn't use is 0.
 pub record Spare (q : Plan) : Type 0 where
   pub at : q .form ≡ 2 → q .at ≡ 0
+  pub size : q .form ≡ 2 → q .size ≡ 0
   pub m : (q .form ≡ 1 → ⊥) → q .m ≡ 0
   pub first : q .form ≡ 0 → q .first ≡ noArgument
   pub second : (q .m ≡ 2 → ⊥) → q .second ≡ noArgument

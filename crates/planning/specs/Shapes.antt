@@ -22,15 +22,15 @@ openedAt types n i = record { form = 2; at = i; ty = n; a = partA types n; b = p
 pub record IsOpened (types : Table) (n i : ℕ) (g : Argument) : Type 0 where
   pub is : g ≡ openedAt types n i
 
--- The tree at a place as it is; with one or two variables replaced; and an argument alone.
-abbrev pub asItIs : ℕ → ℕ → Plan
-asItIs i end = record { form = 0; at = i; m = 0; first = noArgument; second = noArgument; end = end }
+-- The tree of n records at a place as it is; with one or two variables replaced; and an argument alone.
+abbrev pub asItIs : ℕ → ℕ → ℕ → Plan
+asItIs i n end = record { form = 0; at = i; size = n; m = 0; first = noArgument; second = noArgument; end = end }
 
-abbrev pub withOne : ℕ → Argument → ℕ → Plan
-withOne i g end = record { form = 1; at = i; m = 1; first = g; second = noArgument; end = end }
+abbrev pub withOne : ℕ → ℕ → Argument → ℕ → Plan
+withOne i n g end = record { form = 1; at = i; size = n; m = 1; first = g; second = noArgument; end = end }
 
-abbrev pub withTwo : ℕ → Argument → Argument → ℕ → Plan
-withTwo i g h end = record { form = 1; at = i; m = 2; first = g; second = h; end = end }
+abbrev pub withTwo : ℕ → ℕ → Argument → Argument → ℕ → Plan
+withTwo i n g h end = record { form = 1; at = i; size = n; m = 2; first = g; second = h; end = end }
 
 abbrev pub madeAnew : Argument → ℕ → Plan
-madeAnew g end = record { form = 2; at = 0; m = 0; first = g; second = noArgument; end = end }
+madeAnew g end = record { form = 2; at = 0; size = 0; m = 0; first = g; second = noArgument; end = end }

@@ -9,10 +9,12 @@ ghost use Rattle.planning.specs.Matches.{sought, HasMatch, PlansMatch, T
 use replacing::Argument;
 
 // Form 0: the tree at `at`, as it is. Form 1: the tree at `at`, its m variables replaced together by what `first`, for index 0, and `second`,
-// for index 1, stand for. Form 2: what `first` stands for. What a form doesn't use is 0. `end` is the place after the rewritten tree.
+// for index 1, stand for. Form 2: what `first` stands for. `size` is how many records the tree at `at` has. What a form doesn't use is 0.
+// `end` is the place after the rewritten tree.
 pub struct Plan {
     pub form: u16,
     pub at: usize,
+    pub size: usize,
     pub m: u16,
     pub first: Argument,
     pub second: Argument,
@@ -74,12 +76,13 @@ fn opened_at(table: &[u8], ty: u16, at: usize) -> Argument
 }
 
 // Plans of the three forms: 0; 1, with one argument and with two; 2.
-fn as_it_is(at: usize, end: usize) -> Plan
-    ensures { λ r. ⌜ r ≡ asItIs at end ⌝ }
+fn as_it_is(at: usize, size: usize, end: usize) -> Plan
+    ensures { λ r. ⌜ r ≡ asItIs at size end ⌝ }
 {
     Plan {
         form: 0,
         at,
+        size,
         m: 0,
         first: no_argument(),
         second: no_argument(),
@@ -87,12 +90,13 @@ fn as_it_is(at: usize, end: usize) -> Plan
     }
 }
 
-fn with_one(at: usize, first: Argument, end: usize) -> Plan
-    ensures { λ r. ⌜ r ≡ withOne at first end ⌝ }
+fn with_one(at: usize, size: usize, first: Argument, end: usize) -> Plan
+    ensures { λ r. ⌜ r ≡ withOne at size first end ⌝ }
 {
     Plan {
         form: 1,
         at,
+        size,
         m: 1,
         first,
         second: no_argument(),
@@ -100,12 +104,13 @@ fn with_one(at: usize, first: Argument, end: usize) -> Plan
     }
 }
 
-fn with_two(at: usize, first: Argument, second: Argument, end: usize) -> Plan
-    ensures { λ r. ⌜ r ≡ withTwo at first second end ⌝ }
+fn with_two(at: usize, size: usize, first: Argument, second: Argument, end: usize) -> Plan
+    ensures { λ r. ⌜ r ≡ withTwo at size first second end ⌝ }
 {
     Plan {
         form: 1,
         at,
+        size,
         m: 2,
         first,
         second,
@@ -119,6 +124,7 @@ fn made_anew(first: Argument, end: usize) -> Plan
     Plan {
         form: 2,
         at: 0,
+        size: 0,
         m: 0,
         first,
         second: no_argument(),
@@ -133,7 +139,8 @@ fn apply(w: &[u8], p: usize) -> Plan
 {
     let argument = terms::skip(w, p + 1);
     let end = terms::skip(w, argument);
-    with_one(p + 2, tree_at(argument), end)
+    let body = p + 2;
+    with_one(body, argument - body, tree_at(argument), end)
 }
 
 // "The whole fix replaces the variable of its function in that body."
@@ -143,7 +150,8 @@ fn unroll(w: &[u8], p: usize) -> Plan
 {
     let function = p + 1;
     let end = terms::skip(w, function);
-    with_one(p + 2, tree_at(p), end)
+    let body = p + 2;
+    with_one(body, end - body, tree_at(p), end)
 }
 
 // "Lift of a number: quote of that number."
@@ -161,8 +169,10 @@ fn splice(w: &[u8], p: usize) -> Plan
     requires { ⌜ HasRedex (recordsIn (now w)) p 8 ⌝ }
     ensures { λ r. ⌜ PlansRedex (recordsIn (now (w .entry))) p 8 r ⌝ }
 {
-    let end = terms::skip(w, p);
-    as_it_is(p + 2, end)
+    let quote = p + 1;
+    let end = terms::skip(w, quote);
+    let tree = p + 2;
+    as_it_is(tree, end - tree, end)
 }
 
 // The kind of code that a match of this kind looks for: 9 and 12 look for a number.
@@ -210,9 +220,9 @@ fn matches(table: &[u8], w: &[u8], p: usize) -> bool
     }
 }
 
-// The plan of a match that succeeds: its success at `s`, with its variables replaced. Kinds 9 and 10 bind nothing.
-fn success(table: &[u8], w: &[u8], p: usize, s: usize, end: usize) -> Plan
-    requires { ⌜ CanSucceed (entriesIn (now table)) (recordsIn (now w)) p s end ⌝ }
+// The plan of a match that succeeds: its success at `s`, of `size` records, with its variables replaced. Kinds 9 and 10 bind nothing.
+fn success(table: &[u8], w: &[u8], p: usize, s: usize, size: usize, end: usize) -> Plan
+    requires { ⌜ CanSucceed (entriesIn (now table)) (recordsIn (now w)) p s size end ⌝ }
     ensures { λ r. ⌜ PlansSuccess (entriesIn (now (table .entry))) (recordsIn (now (w .entry))) p r ⌝ }
 {
     let r = records::get(w, p);
@@ -222,12 +232,12 @@ fn success(table: &[u8], w: &[u8], p: usize, s: usize, end: usize) -> Plan
             let argument = terms::skip(w, p + 3);
             let b = quote_at(r.b, argument);
             let a = quote_at(r.a, p + 3);
-            with_two(s, b, a, end)
+            with_two(s, size, b, a, end)
         }
-        12 => with_one(s, tree_at(p + 2), end),
-        13 => with_one(s, opened_at(table, r.a, p + 3), end),
-        14 => with_one(s, quote_at(r.a, p + 3), end),
-        _ => as_it_is(s, end),
+        12 => with_one(s, size, tree_at(p + 2), end),
+        13 => with_one(s, size, opened_at(table, r.a, p + 3), end),
+        14 => with_one(s, size, quote_at(r.a, p + 3), end),
+        _ => as_it_is(s, size, end),
     }
 }
 
@@ -240,9 +250,9 @@ fn plan_match(table: &[u8], w: &[u8], p: usize) -> Plan
     let e = terms::skip(w, s);
     let end = terms::skip(w, e);
     if matches(table, w, p) {
-        success(table, w, p, s, end)
+        success(table, w, p, s, e - s, end)
     } else {
-        as_it_is(e, end)
+        as_it_is(e, end - e, end)
     }
 }
 

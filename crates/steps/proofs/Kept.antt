@@ -39,8 +39,8 @@ module _ (rs rs′ : List Record) (p : ℕ) (q : Plan) (l : length rs′ ≡ len
   arguments-kept ts h = record { some = h .some; most = h .most; count = h .count; each = λ j z b. stands-kept _ _ (h .each j z b) }
 
   made-kept : {r′ : Term} {n : ℕ} → Made rs p q r′ n → Made rs′ p q r′ n
-  made-kept (itself h) = itself (inside-kept _ _ h)
-  made-kept (replacing body ts h a e) = replacing body ts (inside-kept _ _ h) (arguments-kept ts a) e
+  made-kept (itself h n) = itself (inside-kept _ _ h) n
+  made-kept (replacing body ts h n a e) = replacing body ts (inside-kept _ _ h) n (arguments-kept ts a) e
   made-kept (anew h) = anew (stands-kept _ _ h)
 
   pub rewriting-kept : (r r′ : Term) → Rewriting rs p q r r′ → Rewriting rs′ p q r r′

@@ -12,7 +12,7 @@ use Rattle.rules.specs.Indices.{changed, replacing, replaced}
 use Rattle.rules.specs.Format.{Record}
 use Rattle.records.specs.View.{recordsIn}
 use Rattle.records.proofs.Records.{records-length}
-use Rattle.terms.specs.Preorder.{preorder, HasTree, puts, part}
+use Rattle.terms.specs.Preorder.{preorder, puts, part}
 use Rattle.terms.specs.Moves.{CanMove, Moved}
 use Rattle.terms.proofs.Trees.{at-within, length-preorder}
 use Rattle.terms.proofs.Puts.{at-part}
@@ -23,46 +23,34 @@ use Rattle.replacing.specs.Copying.{replaces, CanCopy, Copies}
 use Rattle.replacing.proofs.Callers.{can-replace, was-replaced}
 use Rattle.planning.specs.declared.Plan.{Plan}
 use Rattle.steps.specs.Making.{Rewriting, Room, CanMake, MadeThere, Makes}
-use Rattle.steps.specs.MakingParts.{IsSize, CanCopyTree, CopiesTree}
 use Rattle.steps.proofs.RaisedZero.{raised-zero}
 use Rattle.steps.proofs.MakingArea.{area, area-fits, inside-reads, argument-describes, arguments-given, room-free}
 use Rattle.steps.proofs.MakingForms.{Body, by-itself, by-replacing, by-anew}
 
--- A tree that is copied as it is.
-module _ (rs : List Record) (src dst : ℕ) where
-  pub copied-there : CanCopyTree rs src dst → HasTree rs src
-  copied-there v = record { tree = v .tree; there = v .there }
-
-  module _ (n : ℕ) (s : IsSize rs src n) where
-    pub tree-moves : CanCopyTree rs src dst → CanMove rs src dst n
-    tree-moves v =
-        let e = s .is (v .tree) (v .there) in
-        rw e (record { from = at-within rs src (v .tree) (v .there); to = v .room; apart = v .apart })
-
-    pub tree-copied : (rs′ : List Record) → Moved rs rs′ src dst n → CopiesTree rs rs′ src dst (dst + n)
-    tree-copied rs′ m = record {
-      does = λ t h.
-          let e = s .is t h in
-          record { records = m .is ∙ ap (λ k. puts rs dst (part rs src k)) e ∙ ap (puts rs dst) (at-part rs src t h); end = ap (λ k. dst + k) e };
-    }
-
-pub end-fits : (s : List ℕ) (src dst : ℕ) → CanCopyTree (recordsIn s) src dst → (n : ℕ) → IsSize (recordsIn s) src n → length s < 2 ^ 64 → Fits w64 (dst + n)
-end-fits s src dst v n k l = omega (arith, k .is (v .tree) (v .there), v .room, records-length s)
+pub itself-end-fits : (s : List ℕ) (p : ℕ) (q : Plan) (dst : ℕ) → CanMake (recordsIn s) p q dst → q .form ≡ 0 → length s < 2 ^ 64 → Fits w64 (dst + q .size)
+itself-end-fits s p q dst v e l = omega (arith, by-itself (recordsIn s) p q (v .contractum) (v .rewriting .planned .made) e .long, v .room .room, records-length s)
 
 module _ (rs : List Record) (p : ℕ) (q : Plan) (dst : ℕ) where
   -- The tree as it is.
-  pub itself-copies : CanMake rs p q dst → q .form ≡ 0 → CanCopyTree rs (q .at) dst
-  itself-copies v e =
-      let i = by-itself rs p q (v .contractum) (v .rewriting .planned .made) e in
-      record {
-        tree = v .contractum;
-        there = i .there;
-        room = v .room .room;
+  pub itself-moves : CanMake rs p q dst → q .form ≡ 0 → CanMove rs (q .at) dst (q .size)
+  itself-moves v e =
+      let t = by-itself rs p q (v .contractum) (v .rewriting .planned .made) e in
+      let i = t .inside in
+      rw (t .long) (record {
+        from = at-within rs (q .at) (v .contractum) (i .there);
+        to = v .room .room;
         apart = ⊎-elim (λ l. inl (omega (arith, i .upto))) (λ l. inr (omega (arith, i .from))) (v .room .apart);
-      }
+      })
 
-  pub itself-made : q .form ≡ 0 → (rs′ : List Record) (e : ℕ) → CopiesTree rs rs′ (q .at) dst e → Makes rs rs′ p q dst e
-  itself-made f rs′ e k = record { does = λ r r′ h o. k .does r′ (by-itself rs p q r′ (h .planned .made) f .there) }
+  pub itself-made : q .form ≡ 0 → (rs′ : List Record) → Moved rs rs′ (q .at) dst (q .size) → Makes rs rs′ p q dst (dst + q .size)
+  itself-made f rs′ m = record {
+    does = λ r r′ h o.
+        let t = by-itself rs p q r′ (h .planned .made) f in
+        record {
+          records = m .is ∙ ap (λ k. puts rs dst (part rs (q .at) k)) (t .long) ∙ ap (puts rs dst) (at-part rs (q .at) r′ (t .inside .there));
+          end = ap (λ k. dst + k) (t .long);
+        };
+  }
 
   -- A body with its variables replaced.
   module _ (r r′ : Term) (h : Rewriting rs p q r r′) (o : Room rs p q dst r′) (b : Body rs p q r′) where
@@ -113,4 +101,4 @@ module _ (rs : List Record) (p : ℕ) (q : Plan) (dst : ℕ) where
           record { records = w .records ∙ ap (puts rs dst) same; end = w .end ∙ ap (λ vs. dst + length vs) same ∙ ap (λ n. dst + n) (length-preorder r′) };
     }
 
-pub ruleset making = (copied-there, tree-moves, tree-copied, end-fits, itself-copies, itself-made, body-copies, body-made, anew-puts, anew-made)
+pub ruleset making = (itself-end-fits, itself-moves, itself-made, body-copies, body-made, anew-puts, anew-made)

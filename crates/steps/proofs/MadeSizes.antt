@@ -1,5 +1,5 @@
 -- Whether what is made has room: a law for each thing that the code asks. `measuring` for search.
-use Prim.Native.Nat.{ℕ, _-_, _*_, _≤_, _<_}
+use Prim.Native.Nat.{ℕ, _*_, _≤_, _<_}
 use native.Mathlib.Nat.{mul-comm, mul-le-mul}
 use native.Mathlib.Omega.{arith}
 use native.Mathlib.Decide.{decLt}
@@ -17,7 +17,6 @@ use Rattle.rules.specs.Indices.{replaced, replacing}
 use Rattle.rules.specs.Format.{Record}
 use Rattle.rules.proofs.General.{picked}
 use Rattle.rules.proofs.Laid.{size-some}
-use Rattle.terms.specs.Preorder.{HasTree, Skips}
 use Rattle.replacing.specs.declared.Argument.{Argument}
 use Rattle.replacing.specs.declared.Counted.{Counted}
 use Rattle.replacing.specs.Reading.{Reads}
@@ -28,17 +27,9 @@ use Rattle.replacing.proofs.Callers.{sizes-given}
 use Rattle.planning.specs.declared.Plan.{Plan}
 use Rattle.planning.specs.Planned.{StandsFor}
 use Rattle.steps.specs.Making.{Rewriting, CanMeasure, TellsFits}
-use Rattle.steps.specs.MakingParts.{IsSize, CanMeasureBody, MeasuresSecond}
+use Rattle.steps.specs.MakingParts.{CanMeasureBody, MeasuresSecond}
 use Rattle.steps.proofs.MakingArea.{area, inside-reads, argument-describes, arguments-given, argument-small}
 use Rattle.steps.proofs.MakingForms.{Body, by-itself, by-replacing, by-anew}
-
--- The tree at a place.
-module _ (rs : List Record) (i e : ℕ) (k : Skips rs i e) where
-  pub skips-up : HasTree rs i → i ≤ e
-  skips-up h = omega (arith, k .is (h .tree) (h .there))
-
-  pub size-told : IsSize rs i (e - i)
-  size-told = record { is = λ t h. omega (arith, k .is t h) }
 
 module _ (rs : List Record) (p : ℕ) (q : Plan) where
   stands-there : (r r′ : Term) → Rewriting rs p q r r′ → (g : Argument) (t : Term) → StandsFor rs p (q .end) g t → HasArgument rs g
@@ -71,9 +62,6 @@ module _ (rs : List Record) (p : ℕ) (q : Plan) where
     body-reads : Reads (area p q) rs (q .at) 0 (body-there .body)
     body-reads = inside-reads rs p q redex contractum rewriting (q .at) (body-there .body) (body-there .inside)
 
-    pub body-tree : HasTree rs (q .at)
-    body-tree = record { tree = body-there .body; there = body-there .inside .there }
-
     pub first-there : HasArgument rs (q .first)
     first-there = stands-there redex contractum rewriting (q .first) _ first-stands
 
@@ -100,10 +88,10 @@ module _ (rs : List Record) (p : ℕ) (q : Plan) where
       }
 
       -- The bound is a number of the machine.
-      pub bound-fits : (k₀ l : ℕ) → IsSize rs (q .at) k₀ → l ≡ pick (ltb n k) k n → Fits w64 (k₀ * l)
+      pub bound-fits : (l : ℕ) → l ≡ pick (ltb n k) k n → Fits w64 (q .size * l)
       unfolding area
-      bound-fits k₀ l s e =
-          let few : k₀ ≤ 65535 = omega (arith, s .is (body-there .body) (body-there .inside .there), body-reads .deep) in
+      bound-fits l e =
+          let few : q .size ≤ 65535 = omega (arith, body-there .long, body-reads .deep) in
           let most : l ≤ 65535 = rw e (picked (λ x. x ≤ 65535) (ltb n k) (λ _. second-small) (λ _. first-small)) in
           omega (arith, mul-le-mul few most)
 
@@ -129,14 +117,14 @@ module _ (rs : List Record) (p : ℕ) (q : Plan) where
         let a = body-of .arguments in
         omega (arith, first .is (area p q) _ (given .each 0 r (omega (arith, a .some))), size-some (getD (body-of .terms) 0 r))
 
-    bounded : (k₀ l : ℕ) → IsSize rs (q .at) k₀ → l ≡ pick (ltb n k) k n → size r′ ≤ k₀ * l
+    bounded : (l : ℕ) → l ≡ pick (ltb n k) k n → size r′ ≤ q .size * l
     unfolding replaced
-    bounded k₀ l s f =
+    bounded l f =
         let b = body-of in
         let (n≤, k≤) = larger-most l f in
         let weighs = changed-size (replacing (b .terms)) (weight (q .m) n k) (replacing-weighs (q .m) n k (b .terms) sizes) 0 (b .body) in
         let most = summed-most (weight (q .m) n k) 1 l (omega (arith, some-first)) (weight-most (q .m) n k l (omega (arith, some-first)) n≤ k≤) 0 (b .body) in
-        omega (arith, ap size (b .is), weighs, most, s .is (b .body) (b .inside .there), mul-comm l (size (b .body)), ap (λ x. x * l) (s .is (b .body) (b .inside .there)))
+        omega (arith, ap size (b .is), weighs, most, mul-comm l (size (b .body)), ap (λ x. x * l) (b .long))
       where
         larger-most : (l : ℕ) → l ≡ pick (ltb n k) k n → (n ≤ l) × (k ≤ l)
         larger-most l f = elim (decLt n k) [
@@ -145,8 +133,8 @@ module _ (rs : List Record) (p : ℕ) (q : Plan) where
         ]
 
   module _ (v : CanMeasureBody rs p q) (n k room : ℕ) (first : Measures rs (q .first) n) (second : MeasuresSecond rs q k) where
-    pub bound-has-room : (k₀ l : ℕ) → IsSize rs (q .at) k₀ → l ≡ pick (ltb n k) k n → k₀ * l ≤ room → TellsFits rs p q room true
-    bound-has-room k₀ l s f b = record { is = λ r r′ h. sym (le-leb (size r′) room (omega (arith, bounded (v .form) n k first second r r′ h k₀ l s f))) }
+    pub bound-has-room : (l : ℕ) → l ≡ pick (ltb n k) k n → q .size * l ≤ room → TellsFits rs p q room true
+    bound-has-room l f b = record { is = λ r r′ h. sym (le-leb (size r′) room (omega (arith, bounded (v .form) n k first second r r′ h l f))) }
 
     pub count-has-room : (c : Counted) → Counts rs (q .at) 0 (q .m) n k c → TellsFits rs p q room (leb (c .records) room)
     count-has-room c counts = record { is = λ r r′ h. ap (λ x. leb x room) (counted (v .form) n k first second r r′ h c counts) }
@@ -159,17 +147,14 @@ module _ (rs : List Record) (p : ℕ) (q : Plan) where
 
   -- By the plan's form.
   module _ (v : CanMeasure rs p q) where
-    pub itself-there : q .form ≡ 0 → HasTree rs (q .at)
-    itself-there e = record { tree = v .contractum; there = by-itself rs p q (v .contractum) (v .rewriting .planned .made) e .there }
-
     pub body-asks : q .form ≡ 1 → CanMeasureBody rs p q
     body-asks e = record { can = v; form = e }
 
     pub anew-there : (q .form ≡ 0 → ⊥) → (q .form ≡ 1 → ⊥) → HasArgument rs (q .first)
     anew-there z o = stands-there (v .redex) (v .contractum) (v .rewriting) (q .first) (v .contractum) (by-anew rs p q (v .contractum) (v .rewriting .planned .made) z o)
 
-  pub itself-has-room : (room : ℕ) → q .form ≡ 0 → (n : ℕ) → IsSize rs (q .at) n → TellsFits rs p q room (leb n room)
-  itself-has-room room e n s = record { is = λ r r′ h. ap (λ x. leb x room) (s .is r′ (by-itself rs p q r′ (h .planned .made) e .there)) }
+  pub itself-has-room : (room : ℕ) → q .form ≡ 0 → TellsFits rs p q room (leb (q .size) room)
+  itself-has-room room e = record { is = λ r r′ h. ap (λ x. leb x room) (by-itself rs p q r′ (h .planned .made) e .long) }
 
   pub anew-has-room : (room : ℕ) → (q .form ≡ 0 → ⊥) → (q .form ≡ 1 → ⊥) → (n : ℕ) → Measures rs (q .first) n → TellsFits rs p q room (leb n room)
   anew-has-room room z o n m = record {
@@ -177,4 +162,4 @@ module _ (rs : List Record) (p : ℕ) (q : Plan) where
   }
 
 pub ruleset measuring =
-    (skips-up, size-told, body-tree, first-there, second-there, second-measured, no-second, bound-fits, bound-has-room, body-counts, count-has-room, itself-there, body-asks, anew-there, itself-has-room, anew-has-room)
+    (first-there, second-there, second-measured, no-second, bound-fits, bound-has-room, body-counts, count-has-room, body-asks, anew-there, itself-has-room, anew-has-room)

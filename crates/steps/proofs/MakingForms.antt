@@ -3,7 +3,7 @@ use Prim.Native.Nat.{ℕ}
 use native.Mathlib.Omega.{arith}
 use mathlib.Core.Path.{_≡_, refl}
 use mathlib.Core.List.{List}
-use Rattle.rules.specs.Terms.{Term}
+use Rattle.rules.specs.Terms.{Term, size}
 use Rattle.rules.specs.Indices.{replaced}
 use Rattle.rules.specs.Format.{Record}
 use Rattle.planning.specs.declared.Plan.{Plan}
@@ -15,20 +15,26 @@ module _ (rs : List Record) (p : ℕ) (q : Plan) (r′ : Term) where
     pub body : Term
     pub terms : List Term
     pub inside : Inside rs p (q .end) (q .at) body
+    pub long : q .size ≡ size body
     pub arguments : Arguments rs p q terms
     pub is : r′ ≡ replaced terms body
 
-  pub by-itself : {n : ℕ} → Made rs p q r′ n → n ≡ 0 → Inside rs p (q .end) (q .at) r′
-  by-itself (itself i) e = i
-  by-itself (replacing body ts i g k) e = absurd (omega arith)
+  -- r′ is the tree at the plan's place.
+  pub record Itself : Type 0 where
+    pub inside : Inside rs p (q .end) (q .at) r′
+    pub long : q .size ≡ size r′
+
+  pub by-itself : {n : ℕ} → Made rs p q r′ n → n ≡ 0 → Itself
+  by-itself (itself i l) e = record { inside = i; long = l }
+  by-itself (replacing body ts i l g k) e = absurd (omega arith)
   by-itself (anew s) e = absurd (omega arith)
 
   pub by-replacing : {n : ℕ} → Made rs p q r′ n → n ≡ 1 → Body
-  by-replacing (itself i) e = absurd (omega arith)
-  by-replacing (replacing body ts i g k) e = record { body = body; terms = ts; inside = i; arguments = g; is = k }
+  by-replacing (itself i l) e = absurd (omega arith)
+  by-replacing (replacing body ts i l g k) e = record { body = body; terms = ts; inside = i; long = l; arguments = g; is = k }
   by-replacing (anew s) e = absurd (omega arith)
 
   pub by-anew : {n : ℕ} → Made rs p q r′ n → (n ≡ 0 → ⊥) → (n ≡ 1 → ⊥) → StandsFor rs p (q .end) (q .first) r′
-  by-anew (itself i) z o = absurd (z refl)
-  by-anew (replacing body ts i g k) z o = absurd (o refl)
+  by-anew (itself i l) z o = absurd (z refl)
+  by-anew (replacing body ts i l g k) z o = absurd (o refl)
   by-anew (anew s) z o = s

@@ -3,18 +3,9 @@ ghost use mathlib.Core.Path.{_≡_};
 ghost use lib.Dec.{ltb};
 ghost use Rattle.rules.specs.Lists.{pick};
 ghost use Rattle.records.specs.View.{recordsIn};
-ghost use Rattle.terms.specs.Preorder.{HasTree};
 ghost use Rattle.steps.specs.Making.{CanMeasure, TellsFits, CanMake, Makes};
-ghost use Rattle.steps.specs.MakingParts.{IsSize, CanMeasureBody, MeasuresSecond, CanCopyTree, CopiesTree};
+ghost use Rattle.steps.specs.MakingParts.{CanMeasureBody, MeasuresSecond};
 use planning::Plan;
-
-// The size of the tree at `i`.
-fn tree_size(w: &[u8], i: usize) -> usize
-    requires { ⌜ HasTree (recordsIn (now w)) i ⌝ }
-    ensures { λ n. ⌜ IsSize (recordsIn (now (w .entry))) i n ⌝ }
-{
-    terms::skip(w, i) - i
-}
 
 // The size of what stands for index 1, or 0 where one variable is replaced.
 fn second_size(w: &[u8], p: usize, plan: Plan) -> usize
@@ -43,8 +34,7 @@ fn body_fits(w: &[u8], p: usize, plan: Plan, room: usize) -> bool
 {
     let first = replacing::argument_size(w, plan.first);
     let second = second_size(w, p, plan);
-    let records = tree_size(w, plan.at);
-    if records * larger(first, second) <= room {
+    if plan.size * larger(first, second) <= room {
         return true;
     }
     let body = replacing::count_replaced(w, plan.at, 0, plan.m, first, second);
@@ -58,20 +48,10 @@ pub fn made_fits(w: &[u8], p: usize, plan: Plan, room: usize) -> bool
 {
     let form = plan.form;
     match form {
-        0 => tree_size(w, plan.at) <= room,
+        0 => plan.size <= room,
         1 => body_fits(w, p, plan, room),
         _ => replacing::argument_size(w, plan.first) <= room,
     }
-}
-
-// Copies the tree at `src` to `dst`, as it is; returns the place after the copy.
-fn copy_tree(w: &mut [u8], src: usize, dst: usize) -> usize
-    requires { ⌜ CanCopyTree (recordsIn (now w)) src dst ⌝ }
-    ensures { λ e. ⌜ CopiesTree (recordsIn (now (w .entry))) (recordsIn (now (w .exit))) src dst e ⌝ }
-{
-    let n = tree_size(w, src);
-    terms::copy_flat(w, src, dst, n);
-    dst + n
 }
 
 // Writes what is made to `dst`, by the plan's form; returns the place after it.
@@ -81,7 +61,10 @@ pub fn write_made(w: &mut [u8], p: usize, plan: Plan, dst: usize) -> usize
 {
     let form = plan.form;
     match form {
-        0 => copy_tree(w, plan.at, dst),
+        0 => {
+            terms::copy_flat(w, plan.at, dst, plan.size);
+            dst + plan.size
+        }
         1 => {
             let ends = replacing::copy_replaced(
                 w,

@@ -10,7 +10,8 @@ apply-spec =
     (λ c. search (rewriting, needs))  -- add-skip
     (λ c κs. search (rewriting, needs))  -- skip-requires
     (λ c κs. search (rewriting, needs))  -- skip-requires-2
-    (λ c. search (rewriting, needs))  -- add-with-one
+    (λ c. search (rewriting, needs))  -- add-body
+    (λ c. search (rewriting, needs))  -- sub-with-one
     (λ c κs. search (rewriting, needs))  -- tree-at-requires
     (λ c κs. search (rewriting, needs))  -- with-one-requires
     (λ c. search (rewriting, needs))  -- returns

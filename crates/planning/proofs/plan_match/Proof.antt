@@ -13,7 +13,9 @@ plan-match-spec =
     (λ c κs. search (reading, outcomes, needs))  -- skip-requires-2
     (λ c κs. search (reading, outcomes, needs))  -- skip-requires-3
     (λ c κs. search (reading, outcomes, needs))  -- matches-requires
+    (λ c. search (reading, outcomes, needs))  -- sub-success
     (λ c κs. search (reading, outcomes, needs))  -- success-requires
+    (λ c. search (reading, outcomes, needs))  -- sub-as-it-is
     (λ c κs. search (reading, outcomes, needs))  -- as-it-is-requires
     (λ c. search (reading, outcomes, needs))  -- returns
     (λ c. search (reading, outcomes, needs))  -- returns-2

@@ -9,7 +9,8 @@ unroll-spec =
     tie.close (tie.spec
     (λ c. search (rewriting, needs))  -- add-function
     (λ c κs. search (rewriting, needs))  -- skip-requires
-    (λ c. search (rewriting, needs))  -- add-with-one
+    (λ c. search (rewriting, needs))  -- add-body
+    (λ c. search (rewriting, needs))  -- sub-with-one
     (λ c κs. search (rewriting, needs))  -- tree-at-requires
     (λ c κs. search (rewriting, needs))  -- with-one-requires
     (λ c. search (rewriting, needs))  -- returns

@@ -7,7 +7,6 @@ use Rattle.steps.proofs.making.made_fits.Tie as tie
 pub made-fits-spec : {M : Type 1} → statement M
 made-fits-spec =
     tie.close (tie.spec
-    (λ c κs. search (measuring, needs))  -- tree-size-requires
     (λ c κs. search (measuring, needs))  -- body-fits-requires
     (λ c κs. search (measuring, needs))  -- argument-size-requires
     (λ c. search (measuring, needs))  -- returns

@@ -7,7 +7,8 @@ use Rattle.steps.proofs.making.write_made.Tie as tie
 pub write-made-spec : {M : Type 1} → statement M
 write-made-spec =
     tie.close (tie.spec
-    (λ c κs. search (making, needs))  -- copy-tree-requires
+    (λ c κs. search (making, needs))  -- copy-flat-requires
+    (λ c. search (making, needs))  -- add-result
     (λ c κs. search (making, needs))  -- copy-replaced-requires
     (λ c κs. search (making, needs))  -- copy-argument-requires
     (λ c. search (making, needs))  -- same-length
