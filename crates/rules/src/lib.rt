@@ -8,23 +8,19 @@ ghost use Rattle.rules.specs.FieldUses.{uses, useNumber};
 ghost use Rattle.rules.specs.Typing.{levels, standing, firstLevel};
 ghost use Rattle.rules.specs.Steps.{plainKind, stepping};
 
-// How many children a record of this kind has, unless it is kind 4.
-fn children_beside_4(kind: u16) -> u16
-    ensures { λ r. ⌜ ((kind ≡ 4 → ⊥) → r ≡ childCount (kindOf kind)) ⌝ }
-{
-    if kind < 9 {
-        if kind < 3 { 0 } else { 1 }
-    } else {
-        if kind < 15 { 3 } else { 0 }
-    }
-}
+// Two bits for each kind, kind 0 lowest: how many children a record of it has.
+const CHILDREN: u32 = 0x3FFD5640;
 
-// How many children a record of this kind has. Every record that is passed over is asked this: the number is chosen, and nothing is jumped over.
+// How many children a record of this kind has. Every record that is passed over is asked this, so the number is shifted out and nothing is jumped
+// over.
 pub fn children(kind: u16) -> u16
     ensures { λ r. ⌜ r ≡ childCount (kindOf kind) ⌝ }
 {
-    let beside = children_beside_4(kind);
-    if kind == 4 { 2 } else { beside }
+    if kind < 15 {
+        ((CHILDREN >> (2 * (kind as u32))) % 4) as u16
+    } else {
+        0
+    }
 }
 
 // Whether a tree may be plain that has a record of this kind.
