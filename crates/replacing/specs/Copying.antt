@@ -47,6 +47,10 @@ pub record CanCopy (j : Job) (rs : List Record) (src dst d : ℕ) : Type 0 where
   pub tree : Term
   pub can : Copying j change area rs src dst d tree
 
+-- The places after what is read and after what is written.
+abbrev pub endsAt : ℕ → ℕ → Ends
+endsAt src dst = record { src = src; dst = dst }
+
 -- It was copied: the records of the changed tree stand at dst, and r is the place after what was read and after what was written.
 pub record Copied (c : Change) (rs rs′ : List Record) (src dst d : ℕ) (t : Term) (r : Ends) : Type 0 where
   pub records : rs′ ≡ puts rs dst (preorder (changed c d t))

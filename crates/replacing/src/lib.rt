@@ -12,7 +12,7 @@ ghost use Rattle.replacing.specs.Reading.{Wrote};
 ghost use Rattle.replacing.specs.Arguments.{madeRecords, madeCount, HasArgument, Measures, CanPut, Puts};
 ghost use Rattle.replacing.specs.Roots.{Branches, namesRemoved, givesWay, isWrapped, indexed, typedAs, madeRecord, moved, IndexFits};
 ghost use Rattle.replacing.specs.Counting.{CanCount, Counts, CanAdd, Adds, RootAdds, RoomFor, OneMore};
-ghost use Rattle.replacing.specs.Copying.{moves, replaces, CanCopy, Copies, RootCopies};
+ghost use Rattle.replacing.specs.Copying.{endsAt, moves, replaces, CanCopy, Copies, RootCopies};
 
 // The kinds of the records that are made.
 const FUNCTION: u16 = 3;
@@ -183,6 +183,13 @@ fn put_two(w: &mut [u8], dst: usize, x: records::Record, y: records::Record) -> 
     put_one(w, next, y)
 }
 
+// The two places, made anew: a result that is handed on whole would be stored and read back at each return.
+fn both(src: usize, dst: usize) -> Ends
+    ensures { λ r. ⌜ r ≡ endsAt src dst ⌝ }
+{
+    Ends { src: src, dst: dst }
+}
+
 // Copies the root of the tree at src, with the variable wrapped or the index raised; returns the place after it.
 fn raise_root(w: &mut [u8], src: usize, dst: usize, n: u16, d: u16, wrap: bool, code: u16) -> usize
     requires { ⌜ CanCopy (moves n wrap code) (recordsIn (now w)) src dst d ⌝ }
@@ -213,30 +220,18 @@ pub fn copy_raised(
     let children = branching.children;
     let end = raise_root(w, src, dst, n, d, wrap, code);
     if children == 0 {
-        return Ends {
-            src: src + 1,
-            dst: end,
-        };
+        return both(src + 1, end);
     }
     let one = copy_raised(w, src + 1, end, n, d + branching.first, wrap, code);
     if children == 1 {
-        return Ends {
-            src: one.src,
-            dst: one.dst,
-        };
+        return both(one.src, one.dst);
     }
     let two = copy_raised(w, one.src, one.dst, n, d + branching.second, wrap, code);
     if children == 2 {
-        return Ends {
-            src: two.src,
-            dst: two.dst,
-        };
+        return both(two.src, two.dst);
     }
     let three = copy_raised(w, two.src, two.dst, n, d, wrap, code);
-    Ends {
-        src: three.src,
-        dst: three.dst,
-    }
+    both(three.src, three.dst)
 }
 
 // Writes the records that an argument has before those of its tree; returns the place after them.
@@ -437,28 +432,16 @@ pub fn copy_replaced(
     let children = branching.children;
     let end = replace_root(w, src, dst, d, m, first, second);
     if children == 0 {
-        return Ends {
-            src: src + 1,
-            dst: end,
-        };
+        return both(src + 1, end);
     }
     let one = copy_replaced(w, src + 1, end, d + branching.first, m, first, second);
     if children == 1 {
-        return Ends {
-            src: one.src,
-            dst: one.dst,
-        };
+        return both(one.src, one.dst);
     }
     let two = copy_replaced(w, one.src, one.dst, d + branching.second, m, first, second);
     if children == 2 {
-        return Ends {
-            src: two.src,
-            dst: two.dst,
-        };
+        return both(two.src, two.dst);
     }
     let three = copy_replaced(w, two.src, two.dst, d, m, first, second);
-    Ends {
-        src: three.src,
-        dst: three.dst,
-    }
+    both(three.src, three.dst)
 }

@@ -1,5 +1,6 @@
 -- `copy_raised` meets its contract: one law of Copies for each need. What falls is the number of records from src on. `c₀`, `c₁` and `c₂` are what
 -- is known after the tests for no child, for one and for two. Assumes nothing.
+use native.Mathlib.Omega.{arith}
 use borrow.Author.Needs.{needs}
 use Rattle.replacing.proofs.Copies.{copying, first-asks, second-asks, second-deep, two-copied, third-asks, three-copied}
 use Prim.Native.Nat.{ℕ, _-_, _<_}
@@ -10,6 +11,7 @@ use borrow.Fn.PlainCycle.{Measures, is, falls, and}
 use Rattle.replacing.proofs.copy_raised.Reads as copy-raised
 use Rattle.replacing.proofs.copy_raised.Kinds as copy-raised-kinds
 use Rattle.replacing.proofs.+copy_raised.Lts-copy_raised as copy-raised-lts
+use Rattle.replacing.proofs.both.Reads as both-reads
 use Rattle.replacing.proofs.branching_at.Reads as branching-at-reads
 use Rattle.replacing.proofs.raise_root.Reads as raise-root-reads
 use Rattle.replacing.proofs.+copy_raised.{statement}
@@ -27,23 +29,25 @@ copy-raised-below t =
     and 1 copy-raised-kinds.ps (falls 1 copy-raised-kinds.ps _<_ μ-copy-raised t) copy-raised.Pre
 
 abbrev copy-raised-claims : ℕ → copy-raised-lts.Claims
-copy-raised-claims t = (branching-at-reads.Asked, branching-at-reads.Learnt, raise-root-reads.Asked, raise-root-reads.Learnt, copy-raised-below t, copy-raised.Post)
+copy-raised-claims t = (branching-at-reads.Asked, branching-at-reads.Learnt, raise-root-reads.Asked, raise-root-reads.Learnt, both-reads.Asked, both-reads.Learnt, copy-raised-below t, copy-raised.Post)
 
 pub +copy-raised-spec : {M : Type 1} → statement M
 +copy-raised-spec = close μ-copy-raised
     (λ t. copy-raised-lts.spec (copy-raised-claims t) (copy-raised-at t) copy-raised.Post
     (λ c κs. search (copying, needs))  -- branching-at-requires
     (λ c κs. search (copying, needs))  -- raise-root-requires
-    (λ c. search (copying, needs))  -- add-t18
+    (λ c. search (copying, needs))  -- add-both
+    (λ c κs. search (copying, needs))  -- both-requires
     (λ c. search (copying, needs))  -- same-length
-    (λ c. search (copying, needs))  -- returns
+    (λ c. rw (c .both .ensures) (search (copying, needs)))  -- returns
     (λ c. search (copying, needs))  -- add-copy-raised
     (λ c. search (copying, needs))  -- add-copy-raised-2
     (λ c κs.
     let c₀ = c .before .before in
     first-asks _ _ _ _ _ _ _ _ (c₀ .before .before .before .before .before .branching-at .ensures) (c₀ .before .before .before .raise-root .ensures) (c₀ .if1 .left) _ (c₀ .before .before .before .before .before .before .before .before .pre))  -- copy-raised-requires
+    (λ c κs. search (copying, needs))  -- both-requires-2
     (λ c. search (copying, needs))  -- same-length-2
-    (λ c. search (copying, needs))  -- returns-2
+    (λ c. rw (c .both2 .ensures) (search (copying, needs)))  -- returns-2
     (λ c.
     let c₁ = c .before .before in
     let c₀ = c₁ .before .before .before .before .before .before in
@@ -52,20 +56,26 @@ pub +copy-raised-spec : {M : Type 1} → statement M
     let c₁ = c .before .before in
     let c₀ = c₁ .before .before .before .before .before .before in
     second-asks _ _ _ _ _ _ _ _ (c₀ .before .before .before .before .before .branching-at .ensures) (c₀ .before .before .before .raise-root .ensures) (c₀ .if1 .left) _ _ (c₁ .before .before .before .copy-raised .ensures) (c₁ .if2 .left) _ (c₀ .before .before .before .before .before .before .before .before .pre))  -- copy-raised-requires-2
+    (λ c κs. search (copying, needs))  -- both-requires-3
     (λ c. search (copying, needs))  -- same-length-3
-    (λ c.
-    let c₁ = c .before .before .before .before .before .before in
+    (λ c. rw (c .both3 .ensures) (
+    let c₁ = c .before .before .before .before .before .before .before in
     let c₀ = c₁ .before .before .before .before .before .before in
-    two-copied _ _ _ _ _ _ _ _ (c₀ .before .before .before .before .before .branching-at .ensures) (c₀ .before .before .before .raise-root .ensures) (c₀ .if1 .left) _ _ (c₁ .before .before .before .copy-raised .ensures) (c₁ .if2 .left) _ _ (c .before .before .before .copy-raised2 .ensures) (c .if3 .taken))  -- returns-3
+    two-copied _ _ _ _ _ _ _ _ (c₀ .before .before .before .before .before .branching-at .ensures) (c₀ .before .before .before .raise-root .ensures) (c₀ .if1 .left) _ _ (c₁ .before .before .before .copy-raised .ensures) (c₁ .if2 .left) _ _ (c .before .before .before .before .copy-raised2 .ensures) (c .before .if3 .taken)))  -- returns-3
     (λ c κs.
     let c₂ = c .before in
     let c₁ = c₂ .before .before .before .before .before .before in
     let c₀ = c₁ .before .before .before .before .before .before in
     third-asks _ _ _ _ _ _ _ _ (c₀ .before .before .before .before .before .branching-at .ensures) (c₀ .before .before .before .raise-root .ensures) (c₀ .if1 .left) _ _ (c₁ .before .before .before .copy-raised .ensures) (c₁ .if2 .left) _ _ (c₂ .before .before .before .copy-raised2 .ensures) (c₂ .if3 .left) _ (c₀ .before .before .before .before .before .before .before .before .pre))  -- copy-raised-requires-3
-    (λ c. search (copying, needs))  -- same-length-4
+    (λ c κs. search (copying, needs))  -- both-requires-4
     (λ c.
-    let c₂ = c .before .before .before .before in
+    let c₂ = c .before .before .before .before .before in
     let c₁ = c₂ .before .before .before .before .before .before in
     let c₀ = c₁ .before .before .before .before .before .before in
-    three-copied _ _ _ _ _ _ _ _ (c₀ .before .before .before .before .before .branching-at .ensures) (c₀ .before .before .before .raise-root .ensures) (c₀ .if1 .left) _ _ (c₁ .before .before .before .copy-raised .ensures) (c₁ .if2 .left) _ _ (c₂ .before .before .before .copy-raised2 .ensures) (c₂ .if3 .left) _ _ (c .before .before .copy-raised3 .ensures))  -- returns-4
+    omega (arith, c₀ .before .before .before .raise-root, c₁ .before .before .before .copy-raised, c₂ .before .before .before .copy-raised2, c .before .before .before .copy-raised3))  -- same-length-4
+    (λ c. rw (c .both4 .ensures) (
+    let c₂ = c .before .before .before .before .before in
+    let c₁ = c₂ .before .before .before .before .before .before in
+    let c₀ = c₁ .before .before .before .before .before .before in
+    three-copied _ _ _ _ _ _ _ _ (c₀ .before .before .before .before .before .branching-at .ensures) (c₀ .before .before .before .raise-root .ensures) (c₀ .if1 .left) _ _ (c₁ .before .before .before .copy-raised .ensures) (c₁ .if2 .left) _ _ (c₂ .before .before .before .copy-raised2 .ensures) (c₂ .if3 .left) _ _ (c .before .before .before .copy-raised3 .ensures)))  -- returns-4
     )
