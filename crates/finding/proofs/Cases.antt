@@ -27,7 +27,7 @@ pub data Case (rs : List Record) (l i : ℕ) (t : Term) (m : ℕ) (b : Bool) : �
   two : (u v : Term) → At rs (i + 1) u → At rs (i + 1 + size u) v → m ≡ l → find l t i ≡ orElse (find l u (i + 1)) (orHere (find l v (i + 1 + size u)) b i) → Case rs l i t m b 2
 
 -- The root, after a search that ends where the tree does.
-root-after : (x : Found) (b : Bool) (i n : ℕ) → (T (not b) → EndsAt n x) → orElse x (pick b (Redex i) (Done n)) ≡ orHere x b i
+pub root-after : (x : Found) (b : Bool) (i n : ℕ) → (T (not b) → EndsAt n x) → orElse x (pick b (Redex i) (Done n)) ≡ orHere x b i
 unfolding orElse orHere
 root-after (Done e) true i n h = refl
 root-after (Done e) false i n h = ap Done (sym (h tt))

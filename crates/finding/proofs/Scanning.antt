@@ -26,6 +26,7 @@ use Rattle.finding.specs.declared.Found.the-variants.{Done, Redex}
 use Rattle.finding.specs.Contraction.{contracts}
 use Rattle.finding.specs.Finding.{orElse, inside, orHere, find, Finds, SpliceAt, FindsSplice, splice-there, no-splice}
 use Rattle.finding.proofs.Ends.{EndsAt, ends}
+use Rattle.finding.proofs.Cases.{root-after}
 
 -- What is found at level 1 in trees that stand one after another from i on.
 unfoldable pub findAll : List Term → ℕ → Found
@@ -182,16 +183,12 @@ module _ (rs : List Record) (i p : ℕ) (x : Found) (f : FindsSplice rs i x) (e 
   splice-falls m g h = let (a, b) = splice-in h in omega arith
 
   pub found-splice : (y : Found) → Finds 0 rs (p + 1) y → (r : Found) → r ≡ orHere y true p → Finds 1 rs i r
-  unfolding find inside orElse orHere At
+  unfolding find inside At
   found-splice y g r o = record {
     is = λ t h.
         let s = told splice-here t h in
-        o ∙ ap (λ z. orHere z true p) (g .is (s .code) (s .there .2)) ∙ sym (here (find 0 (s .code) (p + 1))) ∙ sym (s .same);
+        o ∙ ap (λ z. orHere z true p) (g .is (s .code) (s .there .2)) ∙ sym (root-after (find 0 (s .code) (p + 1)) true p p (λ n. absurd n)) ∙ sym (s .same);
   }
-    where
-      here : (z : Found) → orElse z (Redex p) ≡ orHere z true p
-      here (Done d) = refl
-      here (Redex q) = refl
 
 pub splice-fits : (s : List ℕ) (i p : ℕ) (x : Found) → FindsSplice (recordsIn s) i x → x ≡ Redex p → HasTree (recordsIn s) i → length s < 2 ^ 64 → Fits w64 (p + 1)
 splice-fits s i p x f e h b = let (a, c) = splice-in (recordsIn s) i p x f e h in omega (arith, records-length s)

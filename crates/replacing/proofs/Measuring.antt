@@ -1,4 +1,4 @@
--- The size of the term that an argument describes, by a count of its tree.
+-- The size of the term that an argument describes: by a count of its tree where uses are wrapped, else by where the tree ends.
 use Prim.Native.Nat.{ℕ, _+_, _-_, _<_, _≤_}
 use native.Mathlib.Omega.{arith}
 use mathlib.Core.Bool.{Bool, true, false}

@@ -17,7 +17,7 @@ use Rattle.terms.proofs.Trees.{at-within, length-preorder}
 use Rattle.terms.proofs.Puts.{length-puts, puts-other, part-puts}
 use Rattle.planning.specs.declared.Plan.{Plan}
 use Rattle.steps.specs.Making.{Rewriting, Room, CanMake, MadeThere, Makes}
-use Rattle.steps.specs.Copies.{RewrittenBy, CanRewrite, WrittenThere, Rewrites}
+use Rattle.steps.specs.Copies.{RewrittenBy, CanRewrite, Rewrites}
 use Rattle.steps.proofs.Kept.{zoomed-rewriting, rewriting-kept}
 use Rattle.steps.proofs.Pieces.{pieces-long, first-piece, last-piece, pieces-put}
 
@@ -123,7 +123,7 @@ module _ (rs : List Record) (base n p : ℕ) (q : Plan) (dst : ℕ) (t u : Term)
           ∙ ap (λ x. puts x (dst + length pre + size made) suf) (made-there .records ∙ ap₂ (λ x k. puts x k (preorder made)) first-put i)
           ∙ pieces-put u made pre suf (h .zoom .after) rs dst
 
-      all-copied : (rs₃ : List Record) → Moved rs₂ rs₃ (q .end) e (base + n - q .end) → WrittenThere rs rs₃ dst (e + (base + n - q .end)) u
+      all-copied : (rs₃ : List Record) → Moved rs₂ rs₃ (q .end) e (base + n - q .end) → MadeThere rs rs₃ dst (e + (base + n - q .end)) u
       all-copied rs₃ d = record { records = copied rs₃ d; end = let l = lies in omega (arith, made-there .end) }
 
 -- What the body asks, a law for each.

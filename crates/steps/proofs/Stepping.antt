@@ -20,9 +20,9 @@ use Rattle.finding.proofs.Next.{found-value}
 use Rattle.planning.specs.declared.Plan.{Plan}
 use Rattle.planning.specs.Redexes.{CanPlan, Plans}
 use Rattle.steps.specs.declared.state.State.{State}
-use Rattle.steps.specs.Making.{CanMeasure, TellsFits}
+use Rattle.steps.specs.Making.{CanMeasure, TellsFits, MadeThere}
 use Rattle.steps.specs.Halves.{Holds}
-use Rattle.steps.specs.Copies.{RewrittenBy, CanRewrite, WrittenThere, Rewrites}
+use Rattle.steps.specs.Copies.{RewrittenBy, CanRewrite, Rewrites}
 use Rattle.steps.specs.Stepping.{Runs, CanStep, Stays, Moves, After, running, valued, full, Stepped, RunsAt, CanStepAt, SteppedAt}
 use Rattle.steps.proofs.NextTerms.{following, becomes, redex-plans, plan-measures, Counts, counts, next-large, next-small, rewritten-by}
 
@@ -91,7 +91,7 @@ module _ (types : Table) (rs : List Record) (s : State) (p : ℕ) (h : CanStepAt
         step-rewrites = record { term = h .term; after = _; can = rewritten (h .term) (h .runs) }
 
         module _ (rs′ : List Record) (o : ℕ) (w : Rewrites rs rs′ base (s .size) p q dst o) where
-          written : (t : Term) (k : RunsAt types rs s p t) → WrittenThere rs rs′ dst o (following types rs s p t k)
+          written : (t : Term) (k : RunsAt types rs s p t) → MadeThere rs rs′ dst o (following types rs s p t k)
           written t k = w .does t (following types rs s p t k) (rewritten t k)
 
           pub step-start : dst ≤ o

@@ -7,10 +7,11 @@ use lib.ListN.{length}
 use Rattle.rules.specs.Terms.{Term, size}
 use Rattle.rules.specs.Types.{Table}
 use Rattle.rules.specs.Format.{Record}
-use Rattle.terms.specs.Preorder.{preorder, At, puts}
+use Rattle.terms.specs.Preorder.{preorder, At}
 use Rattle.finding.specs.Zoom.{Zoom}
 use Rattle.planning.specs.declared.Plan.{Plan}
 use Rattle.planning.specs.Planned.{Planned}
+use Rattle.steps.specs.Making.{MadeThere}
 
 -- The term t of n records stands at base; by the plan of its tree at p it becomes u. There is room for u from dst on, apart from t.
 pub record RewrittenBy (rs : List Record) (base n p : ℕ) (q : Plan) (dst : ℕ) (t u : Term) : Type 0 where
@@ -28,10 +29,6 @@ pub record CanRewrite (rs : List Record) (base n p : ℕ) (q : Plan) (dst : ℕ)
   pub after : Term
   pub can : RewrittenBy rs base n p q dst term after
 
--- rs′ is rs with u written to dst, and e is the place after it.
-pub record WrittenThere (rs rs′ : List Record) (dst e : ℕ) (u : Term) : Type 0 where
-  pub records : rs′ ≡ puts rs dst (preorder u)
-  pub end : e ≡ dst + size u
-
+-- It was written to dst, and e is the place after it.
 pub record Rewrites (rs rs′ : List Record) (base n p : ℕ) (q : Plan) (dst e : ℕ) : Type 0 where
-  pub does : (t u : Term) → RewrittenBy rs base n p q dst t u → WrittenThere rs rs′ dst e u
+  pub does : (t u : Term) → RewrittenBy rs base n p q dst t u → MadeThere rs rs′ dst e u

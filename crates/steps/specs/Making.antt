@@ -44,7 +44,7 @@ pub record CanMake (rs : List Record) (p : ℕ) (q : Plan) (dst : ℕ) : Type 0 
   pub rewriting : Rewriting rs p q redex contractum
   pub room : Room rs p q dst contractum
 
--- It was written there, and e is the place after it.
+-- A term was written to dst, and e is the place after it.
 pub record MadeThere (rs rs′ : List Record) (dst e : ℕ) (r′ : Term) : Type 0 where
   pub records : rs′ ≡ puts rs dst (preorder r′)
   pub end : e ≡ dst + size r′
