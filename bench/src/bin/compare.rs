@@ -124,10 +124,10 @@ impl Buffers {
 /// Calls both engines; the error says how their answers differ.
 fn compare(case: &Case, buffers: &mut Buffers, summary: &mut Summary) -> Result<(), String> {
     let passed = reference::check(&case.program);
-    let engine_passed = engine_check(&case.program);
+    let engine_passed = muntinyarrow::check(&case.program);
     buffers.fill(case);
     let ran = reference::run(&case.program, case.fuel, &mut buffers.reference_output, &mut vec![0; case.work_length]);
-    let engine_ran = engine_run(case, &mut buffers.output, &mut buffers.work);
+    let engine_ran = muntinyarrow::run(&case.program, case.fuel, &mut buffers.output, &mut buffers.work);
     summary.add(&passed, &ran, &buffers.reference_output);
     if engine_passed != passed {
         return Err(format!("check: engine {engine_passed:?}, reference {passed:?}"));
@@ -147,27 +147,6 @@ fn compare(case: &Case, buffers: &mut Buffers, summary: &mut Summary) -> Result<
         return Err(format!("run with fuel {}: bytes that are to be kept have changed; answer {ran:?}", case.fuel));
     }
     Ok(())
-}
-
-fn engine_check(program: &[u8]) -> Result<Passed, Refusal> {
-    match muntinyarrow::check(program) {
-        Ok(passed) => Ok(Passed { root_type: passed.root_type, records: passed.records }),
-        Err(refusal) => Err(Refusal { number: refusal.number, place: refusal.place }),
-    }
-}
-
-fn engine_run(case: &Case, output: &mut [u8], work: &mut [u8]) -> Result<Ran, Refusal> {
-    match muntinyarrow::run(&case.program, case.fuel, output, work) {
-        Ok(ran) => {
-            let ending = match ran.ending {
-                muntinyarrow::Ending::Value => Ending::Value,
-                muntinyarrow::Ending::Spent => Ending::Spent,
-                muntinyarrow::Ending::Full => Ending::Full,
-            };
-            Ok(Ran { ending, steps: ran.steps, root_type: ran.root_type, written: ran.written })
-        }
-        Err(refusal) => Err(Refusal { number: refusal.number, place: refusal.place }),
-    }
 }
 
 /// Writes a case in the form that the listing program reads; gives the file's name.

@@ -1,6 +1,6 @@
 //! Times both engines side by side and prints two tables: runs by the step, checks and refusals by the call.
 //! Arguments, both optional: a part of the workloads' names; `ours`, to leave the other engine out.
-use bench::muntinyarrow::{self, Ending, OUTPUT, WORK};
+use bench::muntinyarrow::{self, Passed, Ran, Refusal, OUTPUT, WORK};
 use bench::programs::stated_records;
 use bench::reference;
 use bench::workloads::{self, Call, Expected, Workload};
@@ -16,9 +16,9 @@ const UNTOUCHED: u8 = 0xA5;
 /// The answer of either engine to either call.
 #[derive(Clone, Copy, Debug, PartialEq, Eq)]
 enum Answer {
-    Passed { root_type: u32, records: u32 },
-    Ran { ending: Ending, steps: u32, root_type: u32, written: usize },
-    Refused { number: u32, place: u32 },
+    Passed(Passed),
+    Ran(Ran),
+    Refused(Refusal),
 }
 
 trait Engine {
@@ -31,41 +31,30 @@ struct Theirs;
 
 impl Engine for Ours {
     fn check(program: &[u8]) -> Answer {
-        match muntinyarrow::check(program) {
-            Ok(passed) => Answer::Passed { root_type: passed.root_type, records: passed.records },
-            Err(refusal) => Answer::Refused { number: refusal.number, place: refusal.place },
-        }
+        checked(muntinyarrow::check(program))
     }
 
     fn run(program: &[u8], fuel: u32, output: &mut [u8], work: &mut [u8]) -> Answer {
-        match muntinyarrow::run(program, fuel, output, work) {
-            Ok(ran) => Answer::Ran { ending: ran.ending, steps: ran.steps, root_type: ran.root_type, written: ran.written },
-            Err(refusal) => Answer::Refused { number: refusal.number, place: refusal.place },
-        }
+        ran(muntinyarrow::run(program, fuel, output, work))
     }
 }
 
 impl Engine for Theirs {
     fn check(program: &[u8]) -> Answer {
-        match reference::check(program) {
-            Ok(passed) => Answer::Passed { root_type: passed.root_type, records: passed.records },
-            Err(refusal) => Answer::Refused { number: refusal.number, place: refusal.place },
-        }
+        checked(reference::check(program))
     }
 
     fn run(program: &[u8], fuel: u32, output: &mut [u8], work: &mut [u8]) -> Answer {
-        match reference::run(program, fuel, output, work) {
-            Ok(ran) => {
-                let ending = match ran.ending {
-                    reference::Ending::Value => Ending::Value,
-                    reference::Ending::Spent => Ending::Spent,
-                    reference::Ending::Full => Ending::Full,
-                };
-                Answer::Ran { ending, steps: ran.steps, root_type: ran.root_type, written: ran.written }
-            }
-            Err(refusal) => Answer::Refused { number: refusal.number, place: refusal.place },
-        }
+        ran(reference::run(program, fuel, output, work))
     }
+}
+
+fn checked(answer: Result<Passed, Refusal>) -> Answer {
+    answer.map_or_else(Answer::Refused, Answer::Passed)
+}
+
+fn ran(answer: Result<Ran, Refusal>) -> Answer {
+    answer.map_or_else(Answer::Refused, Answer::Ran)
 }
 
 struct Buffers {
@@ -107,8 +96,8 @@ fn answers(workload: &Workload, both: bool) -> (Vec<Answer>, Size) {
             assert!(buffers.output == other.output, "{}, program {place}: the written bytes differ", workload.name);
         }
         size.records = size.records.max(stated_records(program));
-        if let Answer::Ran { steps, .. } = answer {
-            size.steps += steps;
+        if let Answer::Ran(ran) = answer {
+            size.steps += ran.steps;
             size.records = size.records.max(stated_records(&buffers.output));
         }
         given.push(answer);
@@ -120,9 +109,9 @@ fn answers(workload: &Workload, both: bool) -> (Vec<Answer>, Size) {
 fn expect(workload: &Workload, given: &[Answer], size: &Size) {
     for answer in given {
         let good = match (workload.expected, *answer) {
-            (Expected::Passed, Answer::Passed { .. }) => true,
-            (Expected::Ended { ending: wanted, .. }, Answer::Ran { ending, .. }) => ending == wanted,
-            (Expected::Refused { number: n, place: p }, Answer::Refused { number, place }) => (number, place) == (n, p),
+            (Expected::Passed, Answer::Passed(_)) => true,
+            (Expected::Ended { ending, .. }, Answer::Ran(ran)) => ran.ending == ending,
+            (Expected::Refused { number, place }, Answer::Refused(refusal)) => refusal == Refusal { number, place },
             _ => false,
         };
         assert!(good, "{}: expected {:?}, but the answer is {answer:?}", workload.name, workload.expected);

@@ -8,38 +8,13 @@ mod term;
 mod tests;
 mod typing;
 
+/// The form of an answer, and no more, is shared with the engine that this one is compared with.
+pub use crate::muntinyarrow::{Ending, Passed, Ran, Refusal};
 use format::Program;
 
 /// The buffers of a run have at least these lengths.
 pub const OUTPUT: usize = 34_308;
 pub const WORK: usize = 65_536;
-
-#[derive(Clone, Copy, Debug, PartialEq, Eq)]
-pub struct Refusal {
-    pub number: u32,
-    pub place: u32,
-}
-
-#[derive(Clone, Copy, Debug, PartialEq, Eq)]
-pub struct Passed {
-    pub root_type: u32,
-    pub records: u32,
-}
-
-#[derive(Clone, Copy, Debug, PartialEq, Eq)]
-pub enum Ending {
-    Value,
-    Spent,
-    Full,
-}
-
-#[derive(Clone, Copy, Debug, PartialEq, Eq)]
-pub struct Ran {
-    pub ending: Ending,
-    pub steps: u32,
-    pub root_type: u32,
-    pub written: usize,
-}
 
 /// Checks a program: refusals 3 to 12.
 pub fn check(program: &[u8]) -> Result<Passed, Refusal> {
