@@ -207,6 +207,7 @@ fn measure(part: &str, both: bool) {
             _ => calls.push(call_row(workload, &size, &timing)),
         }
     }
+    assert!(!runs.is_empty() || !calls.is_empty(), "no workload has {part:?} in its name");
     println!("\n| run | steps | records | ours ns/step | theirs ns/step | ours ns/record/step | theirs ns/record/step | ours/theirs |");
     println!("|---|---|---|---|---|---|---|---|\n{}", runs.join("\n"));
     println!("\n| check or refusal | records | ours ns/call | theirs ns/call | ours ns/record | ours/theirs |");
