@@ -1,2 +1,2 @@
 -- What the contracts of the crate ask.
-pub mod Sizes
+pub mod Limits

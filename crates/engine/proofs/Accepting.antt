@@ -1,18 +1,20 @@
 -- The run of a passed program, from its bytes to the written bytes: `accepting` for search.
 use Prim.Native.Nat.{ℕ, _+_, _*_, _-_}
 use native.Mathlib.Omega.{arith}
-use mathlib.Core.List.{List, _++_}
+use mathlib.Core.List.{List}
 use mathlib.Core.Path.{_≡_, sym, ap, ap₂, _∙_}
 use lib.ListN.{length, take, drop, length-take, length-drop}
 use mir.Syntax.{w32}
 use mir.Val.{Fits}
+use Rattle.rules.specs.Editions.{firstEdition}
 use Rattle.rules.specs.Terms.{Term, typeOf}
 use Rattle.rules.specs.Format.{Record, typeCount, recordCount, tableOf, recordsOf}
-use Rattle.rules.specs.Links.{rootTree, written}
+use Rattle.rules.specs.Links.{rootTree}
 use Rattle.rules.specs.Check.{typeNo}
 use Rattle.rules.specs.Meets.{Meets}
-use Rattle.rules.specs.Run.{endingNumber, outcome, result}
-use Rattle.rules.proofs.Meaning.{exactly, records-counted, unlike}
+use Rattle.rules.specs.Run.{endingNumber, programCourse, outcomeOf, output, writtenOver}
+use Rattle.rules.proofs.Meaning.{exactly, records-counted, root-size, unlike}
+use Rattle.terms.proofs.Loaded.{form-linked}
 use Rattle.rules.proofs.Tree.{tree-type}
 use Rattle.rules.proofs.Whole.{last-type}
 use Rattle.records.specs.View.{entriesIn, recordsIn}
@@ -35,8 +37,8 @@ abbrev recordPart : List ℕ → ℕ → List ℕ
 recordPart p T = take (length p - (4 + 6 * T)) (drop (4 + 6 * T) p)
 
 module _ (p out work : List ℕ) (h : CanAccept p out work) (T R : ℕ) (eT : T ≡ typeCount p) (eR : R ≡ recordCount p) where
-  m : Meets p
-  m = exactly p .0 (h .passing .is)
+  m : Meets firstEdition p
+  m = exactly firstEdition p .0 (h .passing .is)
 
   table-is : tableOf p ≡ entriesIn (tablePart p T)
   table-is = program-table-slice p (m .exact) (4 + 6 * T) (omega (arith, eT))
@@ -46,8 +48,8 @@ module _ (p out work : List ℕ) (h : CanAccept p out work) (T R : ℕ) (eT : T 
 
   pub accept-starts : CanStart (recordsIn (recordPart p T)) R (recordsIn work)
   accept-starts = record {
-    types = tableOf p;
-    form = rw (← records-are) (m .form);
+    linked = form-linked firstEdition (omega arith) (tableOf p) (recordsIn (recordPart p T)) (rw (← records-are) (m .form));
+    whole = rw (← records-are) (root-size firstEdition p m ∙ sym eR);
     counted = ap length (sym records-are) ∙ records-counted p ∙ sym eR;
     some = omega (arith, eR, m .counts .1 .0);
     few = omega (arith, eR, m .counts .1 .0);
@@ -59,7 +61,7 @@ module _ (p out work : List ℕ) (h : CanAccept p out work) (T R : ℕ) (eT : T 
     first = rootTree (recordsIn (recordPart p T))
 
     runs : Runs (entriesIn (tablePart p T)) rs₁ s first
-    runs = runs-first (entriesIn (tablePart p T)) (recordsIn (recordPart p T)) rs₁ s (rw (← table-is, ← records-are) (m .form)) st
+    runs = runs-first (entriesIn (tablePart p T)) (recordsIn (recordPart p T)) rs₁ s (rw (← table-is, ← records-are) (m .form .typed)) st
 
     pub accept-runs : CanRun (entriesIn (tablePart p T)) rs₁ s
     accept-runs = record {
@@ -98,16 +100,16 @@ module _ (p out work : List ℕ) (h : CanAccept p out work) (T R : ℕ) (eT : T 
           concluded : Concluded (entriesIn (tablePart p T)) fuel first rs₂ q e
           concluded = co .does (entriesIn (tablePart p T)) fuel first stopped
 
-          outcome-is : outcome p fuel ≡ endedAt (concluded .ending) (q .steps) (concluded .last)
+          outcome-is : outcomeOf (programCourse p fuel) ≡ endedAt (concluded .ending) (q .steps) (concluded .last)
           outcome-is = rw (table-is, records-are) (concluded .outcome)
 
-          result-is : result p fuel ≡ written (entriesIn (tablePart p T)) (concluded .last)
-          result-is = ap₂ written table-is (ap (λ o. o .last) outcome-is)
+          output-is : output (tableOf p) (programCourse p fuel .last) ≡ output (entriesIn (tablePart p T)) (concluded .last)
+          output-is = ap₂ output table-is (ap (λ o. o .last) outcome-is)
 
-          root-is : root ≡ typeOf (outcome p fuel .last)
-          root-is = er ∙ sym (tree-type (recordsOf p) (length (recordsOf p)) 1) ∙ sym (last-type p m fuel)
+          root-is : root ≡ typeOf (programCourse p fuel .last)
+          root-is = er ∙ sym (tree-type (recordsOf p) (length (recordsOf p)) 1) ∙ sym (last-type firstEdition (omega arith) p m fuel)
 
-          pub accept-done : Accepted p fuel out out′ (record { number = 0; place = 0; ending = e; steps = q .steps; root = root; written = w })
+          pub accept-done : Accepted p fuel out out′ (record { number = 0; place = 0; ending = e; steps = q .steps; «root_type» = root; written = w })
           accept-done =
               let b = wo .does (concluded .last) (concluded .runs .holds) in
               record {
@@ -116,10 +118,10 @@ module _ (p out work : List ℕ) (h : CanAccept p out work) (T R : ℕ) (eT : T 
                   place = 0;
                   ending = (concluded .number ∙ ap (λ o. endingNumber (o .ending)) (sym outcome-is)) i;
                   steps = ap (λ o. o .steps) (sym outcome-is) i;
-                  type = root-is i;
-                  written = (b .end ∙ ap length (sym result-is)) i;
+                  rootType = root-is i;
+                  written = (b .end ∙ ap length (sym output-is)) i;
                 };
-                output = b .bytes ∙ ap (λ x. x ++ drop (length x) out) (sym result-is);
+                output = b .bytes ∙ ap (writtenOver out) (sym output-is);
               }
 
 pub ruleset accepting = (accept-starts, accept-runs, accept-holds, accept-writes, accept-fits, accept-done)

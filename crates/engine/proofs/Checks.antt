@@ -1,43 +1,46 @@
--- Check's answer: `checking` for search. A refused program's is its fault, a passed one's the root's type and the count of records.
+-- Check's answer: `checking` for search. A refused program's is its refusal, a passed one's the root's type and the count of records.
 use Prim.Native.Nat.{ℕ, _+_, _*_, _-_, _≤_, _<_}
 use native.Mathlib.Omega.{arith}
 use mathlib.Core.List.{List}
 use mathlib.Core.Option.{Option, none, some}
 use mathlib.Core.Path.{_≡_, sym, ap, ap₂, _∙_}
 use lib.ListN.{length, getD, take, drop}
+use Rattle.rules.specs.declared.editions.Edition.{Edition}
+use Rattle.rules.specs.Editions.{firstEdition}
+use Rattle.rules.specs.Meant.{editionMeant}
 use Rattle.rules.specs.Format.{noRecord, typeCount, recordCount, recordsOf}
 use Rattle.rules.specs.Refusals.{Refusal}
-use Rattle.rules.specs.Check.{CheckAnswer, typeNo, passing, refusal, checkAnswer}
+use Rattle.rules.specs.Check.{typeNo, passing, failing, refusal, checkAnswer}
 use Rattle.rules.specs.Meets.{Meets}
 use Rattle.rules.proofs.Meaning.{exactly, answered, records-counted}
 use Rattle.records.specs.View.{recordsIn}
 use Rattle.records.specs.Meant.{recordMeant}
 use Rattle.records.specs.declared.Record.{Record}
 use Rattle.records.proofs.Program.{program-records-slice}
-use Rattle.faults.specs.declared.Fault.{Fault}
-use Rattle.faults.specs.Tells.{shown, Tells}
-use Rattle.faults.proofs.Laws.{no-number}
+use Rattle.refusals.specs.declared.Verdict.{Verdict}
+use Rattle.refusals.specs.Tells.{shown, Tells}
+use Rattle.refusals.proofs.Laws.{no-number}
 use Rattle.engine.specs.Answers.{Passing}
 
-abbrev refusing : Fault → CheckAnswer
-refusing f = record { number = f .number; place = f .place; type = 0; records = 0 }
+module _ (p : List ℕ) (e : Edition) (first : editionMeant e ≡ firstEdition) (f : Verdict) (told : Tells f (refusal (editionMeant e) p)) where
+  t : Tells f (refusal firstEdition p)
+  t = rw first at told
 
-module _ (p : List ℕ) (f : Fault) (t : Tells f (refusal p)) where
-  pub check-refused : (f .number ≡ 0 → ⊥) → refusing f ≡ checkAnswer p
+  pub check-refused : (f .number ≡ 0 → ⊥) → failing (f .number) (f .place) ≡ checkAnswer firstEdition p
   unfolding checkAnswer shown
-  check-refused n = go (refusal p) (t .is)
+  check-refused n = go (refusal firstEdition p) (t .is)
     where
-      go : (o : Option Refusal) → f ≡ shown o → refusing f
-          ≡ elim o [ none ↦ passing (typeNo (recordsOf p) 1) (recordCount p) | some r ↦ record { number = r .number; place = r .place; type = 0; records = 0 } ]
+      go : (o : Option Refusal) → f ≡ shown o → failing (f .number) (f .place)
+          ≡ elim o [ none ↦ passing (typeNo (recordsOf p) 1) (recordCount p) | some r ↦ failing (r .number) (r .place) ]
       go none e = absurd (n (ap (λ x. x .number) e))
-      go (some r) e = ap refusing e
+      go (some r) e = ap (λ x. failing (x .number) (x .place)) e
 
   pub check-passing : f .number ≡ 0 → Passing p
-  check-passing z = record { is = no-number f (refusal p) t z }
+  check-passing z = record { is = no-number f (refusal firstEdition p) t z }
 
 module _ (p : List ℕ) (h : Passing p) where
-  meets : Meets p
-  meets = exactly p .0 (h .is)
+  meets : Meets firstEdition p
+  meets = exactly firstEdition p .0 (h .is)
 
   pub passing-types : 0 + 1 < length p
   passing-types = omega (arith, meets .exact)
@@ -58,7 +61,7 @@ module _ (p : List ℕ) (h : Passing p) where
     pub root-told : (r : Record) → recordMeant r ≡ getD (recordsIn (take (length p - (4 + 6 * T)) (drop (4 + 6 * T) p))) 0 noRecord → r .ty ≡ typeNo (recordsOf p) 1
     root-told r e = ap (λ x. x .fields .type) e ∙ ap (λ rs. getD rs 0 noRecord .fields .type) (sym records-there)
 
-  pub check-passed : (root R : ℕ) → root ≡ typeNo (recordsOf p) 1 → R ≡ recordCount p → passing root R ≡ checkAnswer p
-  check-passed root R e eR = ap₂ passing e eR ∙ sym (answered p (h .is))
+  pub check-passed : (root R : ℕ) → root ≡ typeNo (recordsOf p) 1 → R ≡ recordCount p → passing root R ≡ checkAnswer firstEdition p
+  check-passed root R e eR = ap₂ passing e eR ∙ sym (answered firstEdition p (h .is))
 
 pub ruleset checking = (check-refused, check-passing, passing-types, passing-count, passing-end, passing-root, root-told, check-passed)

@@ -6,13 +6,13 @@ use mathlib.Core.List.{List}
 use mathlib.Core.Path.{_≡_, refl, sym, subst, _∙_}
 use Rattle.rules.specs.Terms.{Term}
 use Rattle.rules.specs.Types.{Table}
-use Rattle.rules.specs.Steps.{value}
+use Rattle.rules.specs.Values.{value}
 use Rattle.rules.specs.Format.{Record}
 use Rattle.rules.specs.Run.{valued, spent, full}
 use Rattle.rules.proofs.General.{is-true, is-false}
 use lib.Dec.{T-not}
 use Rattle.steps.specs.declared.state.State.{State}
-use Rattle.steps.specs.Stepping.{Runs, CanStep, After, running, valued as value-found, full as too-large, Stepped, TellsValue}
+use Rattle.steps.specs.Stepping.{Runs, CanStep, After, running, value-found, too-large, Stepped, TellsValue}
 use Rattle.steps.proofs.Running.{runs-on}
 use Rattle.engine.specs.Running.{Running}
 use Rattle.engine.specs.Looping.{CanRun, Stop, by-fuel, by-value, by-room, Stopped, RunsOut, Concluded, Concludes}
@@ -58,7 +58,7 @@ module _ (types : Table) (fuel : ℕ) (rs₀ rs : List Record) (s₀ s : State) 
           step first a (running u b c m) = record {
             term = u;
             runs = runs-on types (h .unlike) rs rs′ s r (a .term) u (a .runs) b m .0;
-            stands = rw (m .steps) (goes-on types fuel first (s .steps) (a .term) (a .stands) u l (is-false (value (a .term)) (T-not (value (a .term)) (b .no-value))) (b .is-next) c);
+            stands = rw (m .steps) (goes-on types fuel first (s .steps) (a .term) (a .stands) (b .event) u l (is-false (value (a .term)) (T-not (value (a .term)) (b .no-value))) (b .is-next) c);
           }
 
       pub going-less : r .status ≡ 0 → fuel - r .steps < fuel - s .steps
@@ -81,7 +81,7 @@ module _ (types : Table) (fuel : ℕ) (rs₀ rs : List Record) (s₀ s : State) 
             last = a .term;
             runs = record { holds = m .holds; typed = a .runs .typed };
             stop = subst (Stop types fuel first (r .steps) (a .term)) (sym e)
-                (by-room (rw (m .steps) (ends-full types fuel first (s .steps) (a .term) (a .stands) u l (is-false (value (a .term)) (T-not (value (a .term)) (b .no-value))) (b .is-next) c)));
+                (by-room (rw (m .steps) (ends-full types fuel first (s .steps) (a .term) (a .stands) (b .event) u l (is-false (value (a .term)) (T-not (value (a .term)) (b .no-value))) (b .is-next) c)));
           }
 
 pub ruleset looping = (going-starts, going-spent, going-steps, going-on, going-less, going-stops)

@@ -4,30 +4,31 @@ use mathlib.Core.List.{List}
 use mathlib.Core.Option.{none, some}
 use mathlib.Core.Path.{_≡_}
 use lib.ListN.{length, drop}
+use Rattle.rules.specs.Editions.{firstEdition}
 use Rattle.rules.specs.Refusals.{Refusal}
 use Rattle.rules.specs.Check.{CheckAnswer as MeantCheckAnswer, refusal}
-use Rattle.rules.specs.Run.{RunAnswer as MeantRunAnswer, runRefusal, runAnswer, runOutput}
+use Rattle.rules.specs.Run.{RunAnswer as MeantRunAnswer, workNeeded, runRefusal, runAnswer, runOutput}
 use Rattle.rules.specs.WholeRun.{Demand3}
 use Rattle.engine.specs.declared.CheckAnswer.{CheckAnswer}
 use Rattle.engine.specs.declared.RunAnswer.{RunAnswer}
 
 abbrev pub checkMeant : CheckAnswer → MeantCheckAnswer
-checkMeant r = record { number = r .number; place = r .place; type = r .root; records = r .records }
+checkMeant r = record { number = r .number; place = r .place; rootType = r .«root_type»; records = r .records }
 
 abbrev pub runMeant : RunAnswer → MeantRunAnswer
-runMeant r = record { number = r .number; place = r .place; ending = r .ending; steps = r .steps; type = r .root; written = r .written }
+runMeant r = record { number = r .number; place = r .place; ending = r .ending; steps = r .steps; rootType = r .«root_type»; written = r .written }
 
--- The program is refused by nothing.
+-- The program, of the first edition, is refused by nothing.
 pub record Passing (program : List ℕ) : Type 0 where
-  pub is : refusal program ≡ none
+  pub is : refusal firstEdition program ≡ none
 
--- What a run ensures, of the program, the fuel and the buffers before the call, its answer, and the buffers after it. The answer and every byte
+-- What a run of the first edition ensures, of the program, the fuel and the buffers before the call, its answer, and the buffers after it. The answer and every byte
 -- of the output buffer are the definitions'. Of the work buffer, the first 65,536 bytes after an accepted run are free, which is the sole freedom;
 -- a refused call changes nothing. Demand 3 is about the same two definitions.
 pub record Ran (program : List ℕ) (fuel : ℕ) (out work : List ℕ) (r : RunAnswer) (out′ work′ : List ℕ) : Type 0 where
-  pub answer : runMeant r ≡ runAnswer program fuel (length out) (length work)
-  pub output : out′ ≡ runOutput program fuel out (length work)
+  pub answer : runMeant r ≡ runAnswer firstEdition program fuel (length out) (length work)
+  pub output : out′ ≡ runOutput firstEdition program fuel out (length work)
   pub work-length : length work′ ≡ length work
-  pub work-beyond : drop 65536 work′ ≡ drop 65536 work
-  pub work-refused : (q : Refusal) → runRefusal program (length out) (length work) ≡ some q → work′ ≡ work
-  pub whole : runRefusal program (length out) (length work) ≡ none → Demand3 program fuel out (length work)
+  pub work-beyond : drop workNeeded work′ ≡ drop workNeeded work
+  pub work-refused : (q : Refusal) → runRefusal firstEdition program (length out) (length work) ≡ some q → work′ ≡ work
+  pub whole : runRefusal firstEdition program (length out) (length work) ≡ none → Demand3 firstEdition program fuel out (length work)

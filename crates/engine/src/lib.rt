@@ -1,5 +1,6 @@
-// The public calls. None has a condition: any bytes get an answer, and the contract fixes every field of it.
+// The public calls, for programs of the first edition. None has a condition: any bytes get an answer, and the contract fixes every field of it.
 ghost use mathlib.Core.Path.{_≡_};
+ghost use Rattle.rules.specs.Editions.{firstEdition};
 ghost use Rattle.rules.specs.Format.{recordsOf};
 ghost use Rattle.rules.specs.Check.{typeNo, checkAnswer};
 ghost use Rattle.rules.specs.Run.{refused};
@@ -10,27 +11,31 @@ ghost use Rattle.engine.specs.Looping.{CanRun, RunsOut, Concludes};
 ghost use Rattle.engine.specs.Accepting.{CanAccept, Accepted};
 use steps::State;
 
+// The bytes that a run needs of its output and its work buffer.
+pub const OUTPUT: usize = 34308;
+
+pub const WORK: usize = 65536;
+
 // What check says of a program: passed, with number and place 0, the root's type and the number of records; or refused, with document 01's
 // number and place and the other fields 0.
 #[repr(C)]
 pub struct CheckAnswer {
     pub number: u32,
     pub place: u32,
-    pub root: u32,
+    pub root_type: u32,
     pub records: u32,
 }
 
 // Checks a program of any bytes.
 pub fn check(program: &[u8]) -> CheckAnswer
-    ensures { λ r. ⌜ checkMeant r ≡ checkAnswer (now (program .entry)) ⌝ }
+    ensures { λ r. ⌜ checkMeant r ≡ checkAnswer firstEdition (now (program .entry)) ⌝ }
 {
-    let fault = checker::program_fault(program);
-    let number = fault.number;
-    if number != 0 {
+    let verdict = checker::program_refusal(program, rules::first_edition());
+    if verdict.number != 0 {
         return CheckAnswer {
-            number: number as u32,
-            place: fault.place as u32,
-            root: 0,
+            number: verdict.number as u32,
+            place: verdict.place as u32,
+            root_type: 0,
             records: 0,
         };
     }
@@ -51,14 +56,14 @@ fn root_type(program: &[u8]) -> u16
 // The answer for a program that is passed.
 fn passed(program: &[u8]) -> CheckAnswer
     requires { ⌜ Passing (now program) ⌝ }
-    ensures { λ r. ⌜ checkMeant r ≡ checkAnswer (now (program .entry)) ⌝ }
+    ensures { λ a. ⌜ checkMeant a ≡ checkAnswer firstEdition (now (program .entry)) ⌝ }
 {
     let root = root_type(program);
     let count = records::get16(program, 2);
     CheckAnswer {
         number: 0,
         place: 0,
-        root: root as u32,
+        root_type: root as u32,
         records: count as u32,
     }
 }
@@ -71,7 +76,7 @@ pub struct RunAnswer {
     pub place: u32,
     pub ending: u32,
     pub steps: u32,
-    pub root: u32,
+    pub root_type: u32,
     pub written: u32,
 }
 
@@ -84,7 +89,7 @@ fn refusing(number: u16, place: u16) -> RunAnswer
         place: place as u32,
         ending: 0,
         steps: 0,
-        root: 0,
+        root_type: 0,
         written: 0,
     }
 }
@@ -135,7 +140,7 @@ fn accepted(program: &[u8], fuel: u32, output: &mut [u8], work: &mut [u8]) -> Ru
         place: 0,
         ending: ending,
         steps: last.steps,
-        root: root as u32,
+        root_type: root as u32,
         written: written as u32,
     }
 }
@@ -144,24 +149,24 @@ fn accepted(program: &[u8], fuel: u32, output: &mut [u8], work: &mut [u8]) -> Ru
 pub fn run(program: &[u8], fuel: u32, output: &mut [u8], work: &mut [u8]) -> RunAnswer
     ensures { λ r. ⌜ Ran (now (program .entry)) fuel (now (output .entry)) (now (work .entry)) r (now (output .exit)) (now (work .exit)) ⌝ }
 {
-    if output.len() < 34308 {
-        return refusing(1, 0);
+    if output.len() < OUTPUT {
+        return refusing(refusals::OUTPUT_SHORT, 0);
     }
-    if work.len() < 65536 {
-        return refusing(2, 0);
+    if work.len() < WORK {
+        return refusing(refusals::WORK_SHORT, 0);
     }
-    let fault = checker::program_fault(program);
-    let number = fault.number;
+    let verdict = checker::program_refusal(program, rules::first_edition());
+    let number = verdict.number;
     if number != 0 {
-        return refusing(number, fault.place);
+        return refusing(number, verdict.place);
     }
-    accepted(program, fuel, output, &mut work[..65536])
+    accepted(program, fuel, output, &mut work[..WORK])
 }
 
 // The calls for C: each slice is a pointer and a length.
 #[no_mangle]
 pub extern "C" fn muntinyarrow_check(program: &[u8]) -> CheckAnswer
-    ensures { λ r. ⌜ checkMeant r ≡ checkAnswer (now (program .entry)) ⌝ }
+    ensures { λ c. ⌜ checkMeant c ≡ checkAnswer firstEdition (now (program .entry)) ⌝ }
 {
     check(program)
 }
@@ -173,7 +178,7 @@ pub extern "C" fn muntinyarrow_run(
     output: &mut [u8],
     work: &mut [u8],
 ) -> RunAnswer
-    ensures { λ r. ⌜ Ran (now (program .entry)) fuel (now (output .entry)) (now (work .entry)) r (now (output .exit)) (now (work .exit)) ⌝ }
+    ensures { λ c. ⌜ Ran (now (program .entry)) fuel (now (output .entry)) (now (work .entry)) c (now (output .exit)) (now (work .exit)) ⌝ }
 {
     run(program, fuel, output, work)
 }

@@ -8,8 +8,9 @@ use lib.Dec.{T}
 use lib.ListN.{length}
 use mir.Syntax.{w64}
 use mir.Val.{Fits}
-use Rattle.rules.specs.Kinds.{function, fix, lift, quote, splice, Kind, leaf₀, unary₁, binary₂, ternary₃, kindOf}
+use Rattle.rules.specs.Kinds.{function, fix, lift, quote, splice, application, match, Kind, leaf₀, unary₁, binary₂, ternary₃, kindOf}
 use Rattle.rules.specs.Terms.{Term, rootKind, size}
+use Rattle.rules.specs.Contractions.{contracts}
 use Rattle.rules.specs.Format.{Record}
 use Rattle.rules.specs.Typing.{firstLevel}
 use Rattle.rules.specs.Steps.{stepping}
@@ -20,7 +21,6 @@ use Rattle.terms.specs.Preorder.{At, HasTree, Skips}
 use Rattle.terms.proofs.Trees.{at-first}
 use Rattle.finding.specs.declared.Found.{Found}
 use Rattle.finding.specs.declared.Found.the-variants.{Done, Redex}
-use Rattle.finding.specs.Contraction.{contracts}
 use Rattle.finding.specs.Finding.{orElse, orHere, find, KindAt, Finds}
 use Rattle.finding.specs.Descent.{HasUnwritten, HasRewritten, LastAt, LastStepped, before, last}
 use Rattle.finding.proofs.Ends.{done-ends}
@@ -44,8 +44,8 @@ kind-rests (unary₁ fix) h n = absurd (subst T h tt)
 kind-rests (unary₁ lift) h n = absurd (subst T h tt)
 kind-rests (unary₁ quote) h n = absurd (n refl)
 kind-rests (unary₁ splice) h n = refl
-kind-rests (binary₂ k) h n = absurd (subst T h tt)
-kind-rests (ternary₃ k) h n = absurd (subst T h tt)
+kind-rests (binary₂ application) h n = absurd (subst T h tt)
+kind-rests (ternary₃ (match k)) h n = absurd (subst T h tt)
 
 kind-across : (k : Kind) → firstLevel k 0 ≡ 1 → stepping 0 k ≡ 1
 kind-across (leaf₀ k) e = absurd (omega arith)
@@ -70,8 +70,8 @@ here-inner (Redex p) i b j = refl
 
 -- `last_stepped`.
 module _ (rs : List Record) (i k : ℕ) (h : HasRewritten rs i k) where
-  cases : (t : Term) → At rs i t → Case rs 0 i t 0 true (stepping 0 (kindOf k))
-  cases t a = rw (kind-down (kindOf k) (h .rewritten) .0, h .rewritten) at (seen rs 0 i k (h .kind) t a)
+  cases : (t : Term) → At rs i t → Case rs i t 0 true (stepping 0 (kindOf k))
+  cases t a = rw (kind-down (kindOf k) (h .rewritten) .0, h .rewritten) at (seen rs i k (h .kind) t a)
 
   stepped-fits : i < length rs
   stepped-fits = at-first rs i (h .tree) (h .there)
@@ -79,31 +79,31 @@ module _ (rs : List Record) (i k : ℕ) (h : HasRewritten rs i k) where
   pub stepped-child : (s : ℕ) → s ≡ stepping 0 (kindOf k) → HasTree rs (i + 1)
   stepped-child s e = go (cases (h .tree) (h .there)) (kind-down (kindOf k) (h .rewritten) .1)
     where
-      go : {t : Term} {s : ℕ} → Case rs 0 i t 0 true s → 1 ≤ s → HasTree rs (i + 1)
+      go : {t : Term} {s : ℕ} → Case rs i t 0 true s → 1 ≤ s → HasTree rs (i + 1)
       go (none r) z = absurd (omega arith)
       go (one u a r) z = record { tree = u; there = a }
-      go (two u v a b n r) z = record { tree = u; there = a }
+      go (two u v a b r) z = record { tree = u; there = a }
 
   pub stepped-two : (s : ℕ) → s ≡ stepping 0 (kindOf k) → s ≡ 2 → (x : Found) → Finds 0 rs (i + 1) x → LastStepped rs i x
   unfolding orElse
   stepped-two s e f (Redex p) g = before p (record { is = λ t a. go (rw (sym e ∙ f) at (cases t a)) })
     where
-      go : {t : Term} → Case rs 0 i t 0 true 2 → Redex p ≡ find 0 t i
-      go (two u v a b n r) = sym (rw (sym (g .is u a), orElse) at r)
+      go : {t : Term} → Case rs i t 0 true 2 → Redex p ≡ find 0 t i
+      go (two u v a b r) = sym (rw (sym (g .is u a), orElse) at r)
   stepped-two s e f (Done d) g = last d (λ t a. go (rw (sym e ∙ f) at (cases t a)))
     where
-      go : {t : Term} → Case rs 0 i t 0 true 2 → LastAt rs i d t
-      go (two u v a b n r) =
+      go : {t : Term} → Case rs i t 0 true 2 → LastAt rs i d t
+      go (two u v a b r) =
           let q : d ≡ i + 1 + size u = done-ends 0 u (i + 1) d (sym (g .is u a)) in
           record { child = v; there = rw q b; further = omega arith; same = rw q (rw (sym (g .is u a), orElse) at r) }
 
   pub stepped-one : (s : ℕ) → s ≡ stepping 0 (kindOf k) → (s ≡ 2 → ⊥) → LastStepped rs i (Done (i + 1))
   stepped-one s e n = last (i + 1) (λ t a. go (cases t a) (kind-down (kindOf k) (h .rewritten) .1) (λ q. n (e ∙ q)))
     where
-      go : {t : Term} {s : ℕ} → Case rs 0 i t 0 true s → 1 ≤ s → (s ≡ 2 → ⊥) → LastAt rs i (i + 1) t
+      go : {t : Term} {s : ℕ} → Case rs i t 0 true s → 1 ≤ s → (s ≡ 2 → ⊥) → LastAt rs i (i + 1) t
       go (none r) z o = absurd (omega arith)
       go (one u a r) z o = record { child = u; there = a; further = omega arith; same = r }
-      go (two u v a b n r) z o = absurd (o refl)
+      go (two u v a b r) z o = absurd (o refl)
 
   pub stepped-falls : (m : ℕ) → 2 * (length rs - i) ≡ m → 2 * (length rs - (i + 1)) + 1 < m
   stepped-falls m e = omega (arith, stepped-fits)
@@ -126,25 +126,25 @@ module _ (rs : List Record) (i : ℕ) (h : HasUnwritten rs i) where
     unwritten : contracts 0 (kindOf k) ≡ false
     unwritten = ap (contracts 0) (ap kindOf (a .is (h .tree) (h .there)) ∙ kind-back (rootKind (h .tree))) ∙ h .stays
 
-    across : l ≡ 1 → (t : Term) → At rs i t → Case rs 0 i t 1 false 1
-    across e t b = rw (sym q ∙ e, unwritten, kind-across (kindOf k) (sym q ∙ e)) at (seen rs 0 i k a t b)
+    across : l ≡ 1 → (t : Term) → At rs i t → Case rs i t 1 false 1
+    across e t b = rw (sym q ∙ e, unwritten, kind-across (kindOf k) (sym q ∙ e)) at (seen rs i k a t b)
 
     pub rest-child : l ≡ 1 → HasTree rs (i + 1)
     rest-child e = go (across e (h .tree) (h .there))
       where
-        go : {t : Term} → Case rs 0 i t 1 false 1 → HasTree rs (i + 1)
+        go : {t : Term} → Case rs i t 1 false 1 → HasTree rs (i + 1)
         go (one u b r) = record { tree = u; there = b }
 
     pub rest-quote : l ≡ 1 → (x : Found) → Finds 1 rs (i + 1) x → Finds 0 rs i x
     rest-quote e x f = record { is = λ t b. go (across e t b) }
       where
-        go : {t : Term} → Case rs 0 i t 1 false 1 → x ≡ find 0 t i
+        go : {t : Term} → Case rs i t 1 false 1 → x ≡ find 0 t i
         go (one u b r) = f .is u b ∙ sym (r ∙ here-none (find 1 u (i + 1)) i)
 
     pub rest-done : (l ≡ 1 → ⊥) → (d : ℕ) → Skips rs i d → Finds 0 rs i (Done d)
-    rest-done n d f = record { is = λ t b. ap Done (f .is t b) ∙ go (rw (kind-rests (kindOf k) unwritten (λ e. n (q ∙ e))) at (seen rs 0 i k a t b)) }
+    rest-done n d f = record { is = λ t b. ap Done (f .is t b) ∙ go (rw (kind-rests (kindOf k) unwritten (λ e. n (q ∙ e))) at (seen rs i k a t b)) }
       where
-        go : {t : Term} {m : ℕ} {b : Bool} → Case rs 0 i t m b 0 → Done (i + size t) ≡ find 0 t i
+        go : {t : Term} {m : ℕ} {b : Bool} → Case rs i t m b 0 → Done (i + size t) ≡ find 0 t i
         go (none r) = sym r
 
 pub rest-place-fits : (s : List ℕ) (i : ℕ) → HasUnwritten (recordsIn s) i → length s < 2 ^ 64 → Fits w64 (i + 1)

@@ -1,24 +1,27 @@
 -- A search that finds nothing ends after the tree, and finds nothing in a tree that is done.
 use Prim.Native.Nat.{ℕ, zero, suc, _+_}
-use mathlib.Core.Path.{_≡_, refl}
-use mathlib.Core.Bool.{Bool, false}
-use lib.Dec.{T, eqb, eqb·suc-zero}
+use mathlib.Core.Path.{_≡_, refl, _∙_}
+use mathlib.Core.Bool.{Bool, true, false, _&&_}
+use lib.Dec.{T, eqb·suc-zero}
 use mir.Facts.{and-yes}
-use Rattle.rules.specs.Kinds.{number, variable, function, fix, lift, quote, splice, Kind, leaf₀, unary₁, binary₂, ternary₃}
+use Rattle.rules.specs.Kinds.{function, fix, lift, quote, splice, application, match, Kind, leaf₀, unary₁, binary₂, ternary₃}
 use Rattle.rules.specs.Terms.{Term, leaf, unary, binary, ternary, rootKind, size}
-use Rattle.rules.specs.Steps.{plainKind, plain, value, done}
+use Rattle.rules.specs.Typing.{level₁}
+use Rattle.rules.specs.Values.{plainKind, plain, value, done}
+use Rattle.rules.specs.Contractions.{contracts}
+use Rattle.rules.specs.Steps.{stepsChild}
 use Rattle.rules.proofs.General.{picked}
+use Rattle.rules.proofs.Agree.{done-child, done-both, done-three}
 use Rattle.finding.specs.declared.Found.{Found}
 use Rattle.finding.specs.declared.Found.the-variants.{Done, Redex}
-use Rattle.finding.specs.Contraction.{contracts}
-use Rattle.finding.specs.Finding.{orElse, inside, atRoot, find}
+use Rattle.finding.specs.Finding.{orElse, searched, rootFound, find}
 
 -- Where nothing is found, the end is n.
 abbrev pub EndsAt : ℕ → Found → Type 0
 EndsAt n (Done e) = e ≡ n
 EndsAt n (Redex p) = Unit {0}
 
-root-ends : (l : ℕ) (t : Term) (i : ℕ) → EndsAt (i + size t) (atRoot l t i)
+root-ends : (l : ℕ) (t : Term) (i : ℕ) → EndsAt (i + size t) (rootFound l t i)
 root-ends l t i = picked (EndsAt (i + size t)) (contracts l (rootKind t)) (λ _. tt) (λ _. refl)
 
 else-ends : (n : ℕ) (x y : Found) → EndsAt n y → EndsAt n (orElse x y)
@@ -26,21 +29,21 @@ unfolding orElse
 else-ends n (Done e) y h = h
 else-ends n (Redex p) y h = tt
 
-inside-ends : (n : ℕ) (b : Bool) (x y : Found) → EndsAt n y → EndsAt n (inside b x y)
-unfolding inside
-inside-ends n b x y h = picked (EndsAt n) b (λ _. else-ends n x y h) (λ _. h)
+searched-ends : (n : ℕ) (b : Bool) (x y : Found) → EndsAt n y → EndsAt n (searched b x y)
+unfolding searched
+searched-ends n b x y h = picked (EndsAt n) b (λ _. else-ends n x y h) (λ _. h)
 
 pub ends : (l : ℕ) (t : Term) (i : ℕ) → EndsAt (i + size t) (find l t i)
 unfolding find
 ends l (leaf k f) i = root-ends l (leaf k f) i
-ends l (unary k f t) i = inside-ends _ _ _ _ (root-ends l (unary k f t) i)
-ends l (binary k f t u) i = else-ends _ _ _ (else-ends _ _ _ (root-ends l (binary k f t u) i))
-ends l (ternary k f t s e) i = inside-ends _ _ _ _ (root-ends l (ternary k f t s e) i)
+ends l (unary k f t) i = searched-ends _ _ _ _ (root-ends l (unary k f t) i)
+ends l (binary k f t u) i = searched-ends _ _ _ _ (searched-ends _ _ _ _ (root-ends l (binary k f t u) i))
+ends l (ternary k f t s e) i = searched-ends _ _ _ _ (searched-ends _ _ _ _ (searched-ends _ _ _ _ (root-ends l (ternary k f t s e) i)))
 
 pub done-ends : (l : ℕ) (t : Term) (i e : ℕ) → find l t i ≡ Done e → e ≡ i + size t
 done-ends l t i e q = rw q at (ends l t i)
 
--- Above level 0 no record of a plain kind is rewritten.
+-- What is done is not rewritten.
 plain-stays : (l : ℕ) (k : Kind) → T (plainKind k) → contracts (suc l) k ≡ false
 plain-stays l (leaf₀ k) h = refl
 plain-stays l (unary₁ function) h = refl
@@ -48,28 +51,49 @@ plain-stays l (unary₁ fix) h = eqb·suc-zero l
 plain-stays l (unary₁ lift) h = absurd h
 plain-stays l (unary₁ quote) h = absurd h
 plain-stays l (unary₁ splice) h = absurd h
-plain-stays l (binary₂ k) h = eqb·suc-zero l
-plain-stays l (ternary₃ k) h = absurd h
+plain-stays l (binary₂ application) h = eqb·suc-zero l
+plain-stays l (ternary₃ (match k)) h = absurd h
+
+root-plain : (t : Term) → T (plain t) → T (plainKind (rootKind t))
+unfolding plain
+root-plain (leaf k f) h = h
+root-plain (unary k f t) h = and-yes (plainKind (unary₁ k)) (plain t) h .0
+root-plain (binary k f t u) h = and-yes (plainKind (binary₂ k)) (plain t && plain u) h .0
+root-plain (ternary k f t s e) h = and-yes (plainKind (ternary₃ k)) (plain t && (plain s && plain e)) h .0
+
+done-stays : (l : ℕ) (t : Term) → T (done l t) → contracts l (rootKind t) ≡ false
+unfolding value
+done-stays zero (leaf k f) h = refl
+done-stays zero (unary function f t) h = refl
+done-stays zero (unary fix f t) h = absurd h
+done-stays zero (unary lift f t) h = absurd h
+done-stays zero (unary quote f t) h = refl
+done-stays zero (unary splice f t) h = refl
+done-stays zero (binary k f t u) h = absurd h
+done-stays zero (ternary k f t s e) h = absurd h
+done-stays (suc l) t h = plain-stays l (rootKind t) (root-plain t h)
+
+root-done : (l : ℕ) (t : Term) (i : ℕ) → T (done l t) → rootFound l t i ≡ Done (i + size t)
+root-done l t i h = rw (done-stays l t h)
+
+-- A child in which nothing is found.
+pub searched-done : (b : Bool) (x y : Found) (n : ℕ) → (T b → x ≡ Done n) → searched b x y ≡ y
+unfolding searched orElse
+searched-done true x y n h = rw (h tt, orElse)
+searched-done false x y n h = refl
 
 -- In a tree that is done nothing is found.
 pub done-found : (t : Term) (l i : ℕ) → T (done l t) → find l t i ≡ Done (i + size t)
-unfolding find orElse inside plain value
-done-found (leaf number f) zero i h = refl
-done-found (leaf variable f) zero i h = absurd h
-done-found (leaf k f) (suc l) i h = refl
-done-found (unary function f t) zero i h = refl
-done-found (unary function f t) (suc l) i h = picked (λ x. x ≡ Done (i + size (unary function f t))) (eqb (suc l) 1) (λ _. rw (done-found t (suc l) (i + 1) h, orElse)) (λ _. refl)
-done-found (unary fix f t) zero i h = absurd h
-done-found (unary fix f t) (suc l) i h = rw (done-found t (suc l) (i + 1) h, plain-stays l (unary₁ fix) tt, orElse)
-done-found (unary lift f t) zero i h = absurd h
-done-found (unary lift f t) (suc l) i h = absurd h
-done-found (unary quote f t) zero i h = rw (done-found t 1 (i + 1) h, orElse)
-done-found (unary quote f t) (suc l) i h = absurd h
-done-found (unary splice f t) zero i h = absurd h
-done-found (unary splice f t) (suc l) i h = absurd h
-done-found (binary k f t u) zero i h = absurd h
-done-found (binary k f t u) (suc l) i h =
-    let (p, q) = and-yes (plain t) (plain u) h in
-    rw (done-found t (suc l) (i + 1) p, done-found u (suc l) (i + 1 + size t) q, plain-stays l (binary₂ k) tt, orElse)
-done-found (ternary k f t s e) zero i h = absurd h
-done-found (ternary k f t s e) (suc l) i h = absurd h
+unfolding find
+done-found (leaf k f) l i h = root-done l (leaf k f) i h
+done-found (unary k f t) l i h =
+    searched-done (stepsChild l (unary₁ k) 0) _ _ _ (λ s. done-found t (level₁ k l) (i + 1) (done-child l k f t s h)) ∙ root-done l (unary k f t) i h
+done-found (binary k f t u) l i h =
+    let (p, q) = done-both l k f t u h in
+    searched-done (stepsChild l (binary₂ k) 0) _ _ _ (λ _. done-found t l (i + 1) p)
+    ∙ searched-done (stepsChild l (binary₂ k) 1) _ _ _ (λ _. done-found u l (i + 1 + size t) q) ∙ root-done l (binary k f t u) i h
+done-found (ternary k f t s e) l i h =
+    let (p, q, r) = done-three l k f t s e h in
+    searched-done (stepsChild l (ternary₃ k) 0) _ _ _ (λ _. done-found t l (i + 1) p)
+    ∙ searched-done (stepsChild l (ternary₃ k) 1) _ _ _ (λ _. done-found s l (i + 1 + size t) q)
+    ∙ searched-done (stepsChild l (ternary₃ k) 2) _ _ _ (λ _. done-found e l (i + 1 + size t + size s) r) ∙ root-done l (ternary k f t s e) i h

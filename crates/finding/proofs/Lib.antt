@@ -1,10 +1,8 @@
 -- The laws of finding.
-pub mod Contracting
 pub mod Ends
 pub mod Zooms
 pub mod Located
 pub mod Cases
 pub mod Next
-pub mod Stored
 pub mod Scanning
 pub mod Descending

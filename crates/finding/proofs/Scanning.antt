@@ -9,10 +9,11 @@ use lib.Dec.{T}
 use lib.ListN.{length, getD}
 use mir.Syntax.{w64}
 use mir.Val.{Fits}
-use Rattle.rules.specs.Kinds.{function, fix, lift, quote, splice, childCount, kindOf}
+use Rattle.rules.specs.Kinds.{function, fix, lift, quote, splice, application, match, childCount, kindOf}
 use Rattle.rules.specs.Terms.{Term, leaf, unary, binary, ternary, rootKind, size}
+use Rattle.rules.specs.Contractions.{contracts}
 use Rattle.rules.specs.Format.{Record, noRecord}
-use Rattle.rules.specs.Steps.{plainKind}
+use Rattle.rules.specs.Values.{plainKind}
 use Rattle.rules.proofs.Laid.{size-some}
 use Rattle.records.specs.View.{recordsIn}
 use Rattle.records.proofs.Records.{records-length}
@@ -23,8 +24,7 @@ use Rattle.terms.proofs.Forests.{Left, forest-first, forest-rest, left-one, lef
 use Rattle.terms.proofs.Skipping.{Skipping}
 use Rattle.finding.specs.declared.Found.{Found}
 use Rattle.finding.specs.declared.Found.the-variants.{Done, Redex}
-use Rattle.finding.specs.Contraction.{contracts}
-use Rattle.finding.specs.Finding.{orElse, inside, orHere, find, Finds, SpliceAt, FindsSplice, splice-there, no-splice}
+use Rattle.finding.specs.Finding.{orElse, searched, orHere, find, Finds, SpliceAt, FindsSplice, splice-there, no-splice}
 use Rattle.finding.proofs.Ends.{EndsAt, ends}
 use Rattle.finding.proofs.Cases.{root-after}
 
@@ -53,31 +53,31 @@ found-append (t ∷ ts) us i =
 
 -- Under a root of a plain kind the children are searched, one after another.
 plain-root : (t : Term) (i : ℕ) → plainKind (rootKind t) ≡ true → find 1 t i ≡ findAll (kids t) (i + 1)
-unfolding find findAll kids inside size
+unfolding find findAll kids searched size
 plain-root (leaf k f) i h = refl
 plain-root (unary function f t) i h = let e : i + (1 + size t) ≡ i + 1 + size t = omega arith in rw e
 plain-root (unary fix f t) i h = let e : i + (1 + size t) ≡ i + 1 + size t = omega arith in rw e
 plain-root (unary lift f t) i h = absurd (subst T (sym h) tt)
 plain-root (unary quote f t) i h = absurd (subst T (sym h) tt)
 plain-root (unary splice f t) i h = absurd (subst T (sym h) tt)
-plain-root (binary k f t u) i h = let e : i + (1 + size t + size u) ≡ i + 1 + size t + size u = omega arith in rw e
-plain-root (ternary k f t s e) i h = absurd (subst T (sym h) tt)
+plain-root (binary application f t u) i h = let e : i + (1 + size t + size u) ≡ i + 1 + size t + size u = omega arith in rw e
+plain-root (ternary (match k) f t s e) i h = absurd (subst T (sym h) tt)
 
 -- A root of another kind that isn't rewritten is not searched.
 other-root : (t : Term) (i : ℕ) → plainKind (rootKind t) ≡ false → contracts 1 (rootKind t) ≡ false → find 1 t i ≡ Done (i + size t)
-unfolding find inside
+unfolding find searched
 other-root (leaf k f) i h n = absurd (subst T h tt)
 other-root (unary function f t) i h n = absurd (subst T h tt)
 other-root (unary fix f t) i h n = absurd (subst T h tt)
 other-root (unary lift f t) i h n = refl
 other-root (unary quote f t) i h n = refl
 other-root (unary splice f t) i h n = absurd (subst T n tt)
-other-root (binary k f t u) i h n = absurd (subst T h tt)
-other-root (ternary k f t s e) i h n = refl
+other-root (binary application f t u) i h n = absurd (subst T h tt)
+other-root (ternary (match k) f t s e) i h n = refl
 
 -- A root that is rewritten is a splice, and ends the search.
 spliced : (rs : List Record) (i at : ℕ) (u t : Term) (y : Found) → At rs at u → i ≤ at → contracts 1 (rootKind u) ≡ true → orElse (find 1 u at) y ≡ find 1 t i → SpliceAt rs i at t
-unfolding find inside orElse
+unfolding find searched orElse
 spliced rs i at (leaf k f) t y h a n e = absurd (subst T (sym n) tt)
 spliced rs i at (unary function f u) t y h a n e = absurd (subst T (sym n) tt)
 spliced rs i at (unary fix f u) t y h a n e = absurd (subst T (sym n) tt)
@@ -90,8 +90,8 @@ spliced rs i at (unary splice f u) t y h a n e = record {
   after = a;
   same = sym e ∙ else-assoc (find 0 u (at + 1)) (Redex at) y;
 }
-spliced rs i at (binary k f u v) t y h a n e = absurd (subst T (sym n) tt)
-spliced rs i at (ternary k f u v w) t y h a n e = absurd (subst T (sym n) tt)
+spliced rs i at (binary application f u v) t y h a n e = absurd (subst T (sym n) tt)
+spliced rs i at (ternary (match k) f u v w) t y h a n e = absurd (subst T (sym n) tt)
 
 -- At `at`, p trees of the tree at i are left, and what is found in it is what is found in them.
 pub record Scanning (rs : List Record) (i at p : ℕ) : Type 0 where
@@ -183,7 +183,7 @@ module _ (rs : List Record) (i p : ℕ) (x : Found) (f : FindsSplice rs i x) (e 
   splice-falls m g h = let (a, b) = splice-in h in omega arith
 
   pub found-splice : (y : Found) → Finds 0 rs (p + 1) y → (r : Found) → r ≡ orHere y true p → Finds 1 rs i r
-  unfolding find inside At
+  unfolding find searched At
   found-splice y g r o = record {
     is = λ t h.
         let s = told splice-here t h in

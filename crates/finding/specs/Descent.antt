@@ -5,11 +5,11 @@ use mathlib.Core.Bool.{true, false}
 use mathlib.Core.List.{List}
 use Rattle.rules.specs.Kinds.{kindOf}
 use Rattle.rules.specs.Terms.{Term, rootKind}
+use Rattle.rules.specs.Contractions.{contracts}
 use Rattle.rules.specs.Format.{Record}
 use Rattle.terms.specs.Preorder.{At}
 use Rattle.finding.specs.declared.Found.{Found}
 use Rattle.finding.specs.declared.Found.the-variants.{Done, Redex}
-use Rattle.finding.specs.Contraction.{contracts}
 use Rattle.finding.specs.Finding.{orHere, find, KindAt, Finds}
 
 -- A tree stands at i whose root isn't rewritten at level 0.

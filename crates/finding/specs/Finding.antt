@@ -3,17 +3,16 @@ use Prim.Native.Nat.{ℕ, _+_, _≤_}
 use mathlib.Core.Path.{_≡_}
 use mathlib.Core.List.{List}
 use mathlib.Core.Bool.{Bool}
-use lib.Dec.{eqb}
-use Rattle.rules.specs.Kinds.{splice, kindNumber}
+use Rattle.rules.specs.Kinds.{splice, unary₁, binary₂, ternary₃, kindNumber}
 use Rattle.rules.specs.Lists.{pick}
 use Rattle.rules.specs.Terms.{Fields, Term, leaf, unary, binary, ternary, rootKind, size}
 use Rattle.rules.specs.Format.{Record}
 use Rattle.rules.specs.Typing.{level₁}
-use Rattle.rules.specs.Steps.{enters}
+use Rattle.rules.specs.Contractions.{contracts}
+use Rattle.rules.specs.Steps.{stepsChild}
 use Rattle.terms.specs.Preorder.{At}
 use Rattle.finding.specs.declared.Found.{Found}
 use Rattle.finding.specs.declared.Found.the-variants.{Done, Redex}
-use Rattle.finding.specs.Contraction.{contracts}
 
 -- What a first search finds to rewrite, or else what the second finds.
 unfoldable pub orElse : Found → Found → Found
@@ -21,26 +20,32 @@ orElse (Done e) y = y
 orElse (Redex p) y = Redex p
 
 -- The same, where the first search is made only if b holds.
-unfoldable pub inside : Bool → Found → Found → Found
-inside b x y = pick b (orElse x y) y
+unfoldable pub searched : Bool → Found → Found → Found
+searched b x y = pick b (orElse x y) y
 
 -- What a first search finds to rewrite, or else the record at i where it is rewritten, or else nothing.
 unfoldable pub orHere : Found → Bool → ℕ → Found
 orHere (Done e) b i = pick b (Redex i) (Done e)
 orHere (Redex p) b i = Redex p
 
--- The root of a tree at i, when the children that it steps are done.
-abbrev pub atRoot : ℕ → Term → ℕ → Found
-atRoot l t i = pick (contracts l (rootKind t)) (Redex i) (Done (i + size t))
+-- The root of the tree t at i, when the children that it steps are done.
+abbrev pub rootFound : ℕ → Term → ℕ → Found
+rootFound l t i = pick (contracts l (rootKind t)) (Redex i) (Done (i + size t))
 
--- What is found in the tree t that stands at i, at level l. "At level 0, application steps its first child until that is a value, then its
--- second; fix, lift and matches step the first child until it is a value. Quote steps its child at level 1 until plain. At level 1, function,
--- application and fix step the first child that isn't plain; splice steps its child at level 0 until that is a value. Then:" the root.
+-- What is found in the tree t that stands at i, at level l: what is found in the children that its root steps, from the first on; "then:" the
+-- root. "At level 0, application steps its first child until that is a value, then its second; fix, lift and matches step the first child until
+-- it is a value. Quote steps its child at level 1 until plain. At level 1, function, application and fix step the first child that isn't plain;
+-- splice steps its child at level 0 until that is a value."
 unfoldable pub find : ℕ → Term → ℕ → Found
-find l (leaf k f) i = atRoot l (leaf k f) i
-find l (unary k f t) i = inside (enters l k) (find (level₁ k l) t (i + 1)) (atRoot l (unary k f t) i)
-find l (binary k f t u) i = orElse (find l t (i + 1)) (orElse (find l u (i + 1 + size t)) (atRoot l (binary k f t u) i))
-find l (ternary k f t s e) i = inside (eqb l 0) (find l t (i + 1)) (atRoot l (ternary k f t s e) i)
+find l (leaf k f) i = rootFound l (leaf k f) i
+find l (unary k f t) i = searched (stepsChild l (unary₁ k) 0) (find (level₁ k l) t (i + 1)) (rootFound l (unary k f t) i)
+find l (binary k f t u) i =
+    searched (stepsChild l (binary₂ k) 0) (find l t (i + 1))
+    (searched (stepsChild l (binary₂ k) 1) (find l u (i + 1 + size t)) (rootFound l (binary k f t u) i))
+find l (ternary k f t s e) i =
+    searched (stepsChild l (ternary₃ k) 0) (find l t (i + 1))
+    (searched (stepsChild l (ternary₃ k) 1) (find l s (i + 1 + size t))
+    (searched (stepsChild l (ternary₃ k) 2) (find l e (i + 1 + size t + size s)) (rootFound l (ternary k f t s e) i)))
 
 -- k is the number of the kind of the record at i.
 pub record KindAt (rs : List Record) (i k : ℕ) : Type 0 where

@@ -1,5 +1,4 @@
 -- What the contracts of the crate cite, and the words of its theorems.
-pub mod Contraction
 pub mod Finding
 pub mod Zoom
 pub mod Descent

@@ -7,12 +7,13 @@ use Rattle.rules.specs.Terms.{Term, size}
 use Rattle.rules.specs.Format.{Record}
 use Rattle.rules.specs.Types.{Table}
 use Rattle.rules.specs.Typing.{Env, Typed}
+use Rattle.rules.specs.Contractions.{Contraction}
+use Rattle.rules.specs.Steps.{Event}
 use Rattle.terms.specs.Preorder.{preorder}
-use Rattle.finding.specs.Contraction.{Contraction}
 
 -- xs, whose first record is at i, and xs′ differ in the tree at p alone: xs has the redex there, xs′ what it is rewritten to. The redex keeps
--- its rules under its binders; their number and twice its records are at most n together.
-pub record Zoom (types : Table) (n : ℕ) (xs xs′ : List Record) (i p : ℕ) : Type 0 where
+-- its rules under its binders; their number and twice its records are at most n together. e is the event of that: its place counts the first record as 1.
+pub record Zoom (types : Table) (n : ℕ) (e : Event) (xs xs′ : List Record) (i p : ℕ) : Type 0 where
   pub pre : List Record
   pub suf : List Record
   pub redex : Term
@@ -22,6 +23,7 @@ pub record Zoom (types : Table) (n : ℕ) (xs xs′ : List Record) (i p : ℕ) :
   pub before : xs ≡ pre ++ (preorder redex ++ suf)
   pub after : xs′ ≡ pre ++ (preorder contractum ++ suf)
   pub place : p ≡ i + length pre
-  pub contraction : Contraction types level redex contractum
+  pub counted : e .place ≡ 1 + length pre
+  pub contraction : Contraction types level (e .rule) (e .replaced) redex contractum
   pub typed : Typed types binders level redex
   pub bounded : length binders + 2 * size redex ≤ n

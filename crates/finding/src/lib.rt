@@ -1,9 +1,7 @@
 // Where the next step of a term is made: the finders of level 0 and of level 1.
 ghost use mathlib.Core.Path.{_≡_};
-ghost use Rattle.rules.specs.Kinds.{kindOf};
 ghost use Rattle.records.specs.View.{recordsIn};
 ghost use Rattle.terms.specs.Preorder.{HasTree};
-ghost use Rattle.finding.specs.Contraction.{contracts};
 ghost use Rattle.finding.specs.Finding.{orHere, KindAt, Finds, FindsSplice};
 ghost use Rattle.finding.specs.Descent.{HasUnwritten, HasRewritten, LastStepped};
 
@@ -11,26 +9,6 @@ ghost use Rattle.finding.specs.Descent.{HasUnwritten, HasRewritten, Last
 pub enum Found {
     Done(usize),
     Redex(usize),
-}
-
-// Whether a record of this kind is rewritten at level 0, once the children that it steps are done.
-fn contracts_at_zero(kind: u16) -> bool
-    ensures { λ r. ⌜ r ≡ contracts 0 (kindOf kind) ⌝ }
-{
-    match kind {
-        4..=6 | 9..=14 => true,
-        _ => false,
-    }
-}
-
-// The same at level 1.
-fn contracts_at_one(kind: u16) -> bool
-    ensures { λ r. ⌜ r ≡ contracts 1 (kindOf kind) ⌝ }
-{
-    match kind {
-        8 => true,
-        _ => false,
-    }
 }
 
 // The kind of the record at `i`.
@@ -91,7 +69,7 @@ pub fn find0(w: &[u8], i: usize) -> Found
     let mut passed = i;
     let mut any = false;
     let mut kind = kind_at(w, i);
-    while contracts_at_zero(kind) {
+    while rules::contracts_at_zero(kind) {
         match last_stepped(w, at, kind) {
             Found::Redex(p) => {
                 return Found::Redex(p);
@@ -118,7 +96,7 @@ fn first_splice(w: &[u8], i: usize) -> Found
     while 0 < pending {
         let r = records::get(w, at);
         let kind = r.kind;
-        if contracts_at_one(kind) {
+        if rules::contracts_at_one(kind) {
             return Found::Redex(at);
         }
         if rules::is_plain(kind) {

@@ -13,7 +13,7 @@ use Rattle.rules.specs.Links.{firstOf, nextOf}
 use Rattle.rules.specs.Check.{naming, linksRule}
 use Rattle.records.specs.declared.Record.{Record as Read}
 use Rattle.records.specs.Meant.{recordMeant}
-use Rattle.links.specs.declared.Names.{Names}
+use Rattle.links.specs.declared.naming.Names.{Names}
 use Rattle.links.specs.Named.{NamedBy}
 use Rattle.links.specs.Counters.{CanJudge}
 

@@ -5,3 +5,4 @@ pub mod Counting
 pub mod Judging
 pub mod Scanning
 pub mod Passed
+pub mod Chaining

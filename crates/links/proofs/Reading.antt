@@ -8,7 +8,7 @@ use Rattle.rules.specs.Links.{named, firstOf}
 use Rattle.records.specs.declared.Record.{Record as Read}
 use Rattle.records.specs.Places.{IsRecord}
 use Rattle.links.specs.Named.{NamedBy}
-use Rattle.links.specs.Given.{Among}
+use Rattle.links.specs.Limits.{Among}
 
 -- A link names the record that it says, if that is above its own and there is one.
 pub names-it : (count n link : ℕ) → n < link → link ≤ count → link ≡ named count n link

@@ -7,7 +7,7 @@ use lib.ListN.{length, getD, set}
 use Rattle.rules.specs.Lists.{pick}
 use Rattle.rules.specs.Format.{Record}
 use Rattle.rules.specs.Check.{naming}
-use Rattle.links.specs.Given.{Given, Among}
+use Rattle.links.specs.Limits.{Limited, Among}
 
 -- The counters when one more link names record m; 0 is no record.
 unfoldable pub bumped : List ℕ → ℕ → List ℕ
@@ -19,8 +19,8 @@ pub record CanBump (counts : List ℕ) (m : ℕ) : Type 0 where
   pub small : getD counts (m - 1) 0 < 65535
 
 -- Each of `count` records has a counter, and the counters are 0.
-pub record CanCount (rs : List Record) (count : ℕ) (counts : List ℕ) : Type 0 where
-  pub given : Given rs count
+pub record Uncounted (rs : List Record) (count : ℕ) (counts : List ℕ) : Type 0 where
+  pub limited : Limited rs count
   pub room : count ≤ length counts
   pub zero : (k : ℕ) → getD counts k 0 ≡ 0
 
@@ -31,7 +31,7 @@ pub record Counted (rs : List Record) (counts : List ℕ) : Type 0 where
 
 -- The links of `count` records are counted.
 pub record CanScan (rs : List Record) (count : ℕ) (counts : List ℕ) : Type 0 where
-  pub given : Given rs count
+  pub limited : Limited rs count
   pub counted : Counted rs counts
 
 -- The links of `count` records are counted, and there is a record n among them.

@@ -1,4 +1,5 @@
 -- What the contracts of the crate cite.
-pub mod Given
+pub mod Limits
 pub mod Named
 pub mod Counters
+pub mod Chains

@@ -4,7 +4,7 @@ use mathlib.Core.List.{List}
 use mathlib.Core.Path.{_≡_}
 use Rattle.rules.specs.Format.{Record}
 use Rattle.rules.specs.Links.{firstOf, nextOf}
-use Rattle.links.specs.declared.Names.{Names}
+use Rattle.links.specs.declared.naming.Names.{Names}
 
 -- r holds what the two links of record n name.
 pub record NamedBy (rs : List Record) (n : ℕ) (r : Names) : Type 0 where

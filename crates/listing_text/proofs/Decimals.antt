@@ -8,7 +8,7 @@ use mathlib.Core.List.{List, [], _∷_, _++_}
 use borrow.Author.Tests.{lt-ltb, le-ltb}
 use lib.ListN.{length, length-append}
 use Rattle.listing_text.specs.Decimal.{digit, IsDigit, digits, decimal}
-use Rattle.listing_text.specs.Wrote.{Room, Wrote}
+use Rattle.listing_text.specs.Parts.{RoomForPart, WroteText}
 use Rattle.listing_text.proofs.Parts.{room-rest, wrote-both}
 
 -- One digit, or one more than the tens have.
@@ -52,22 +52,22 @@ decimal-short (suc k) n h = go (decimal-short k (n / 10)) (decLt n 10)
     go f (no l) = omega (arith, simp length-append at (ap length (decimal-more n (omega arith))), f (omega (arith, pow-suc 10 k)))
 
 -- What the function writes: its only digit, or those of the tens and that of the ones.
-pub tens-room : (s : List ℕ) (at n : ℕ) → Room s at (decimal n) → Room s at (decimal (n / 10))
+pub tens-room : (s : List ℕ) (at n : ℕ) → RoomForPart s at (decimal n) → RoomForPart s at (decimal (n / 10))
 tens-room s at n h = record { enough = omega (arith, h .enough, tens-short n (decLt n 10)) }
 
 module _ (s : List ℕ) (at n b : ℕ) where
   module _ (d : IsDigit n b) where
-    pub only-room : Room s at (decimal n) → Room s at (b ∷ [])
+    pub only-room : RoomForPart s at (decimal n) → RoomForPart s at (b ∷ [])
     only-room h = rw (d .is, ← decimal-few n (d .small)) h
 
-    pub only-wrote : (s′ : List ℕ) (end : ℕ) → Wrote s at (b ∷ []) s′ end → Wrote s at (decimal n) s′ end
+    pub only-wrote : (s′ : List ℕ) (end : ℕ) → WroteText s at (b ∷ []) s′ end → WroteText s at (decimal n) s′ end
     only-wrote s′ end w = rw (decimal-few n (d .small), ← d .is) w
 
-  module _ (l : 10 ≤ n) (s′ : List ℕ) (place : ℕ) (w : Wrote s at (decimal (n / 10)) s′ place) (d : IsDigit (n % 10) b) where
-    pub ones-room : Room s at (decimal n) → Room s′ place (b ∷ [])
+  module _ (l : 10 ≤ n) (s′ : List ℕ) (place : ℕ) (w : WroteText s at (decimal (n / 10)) s′ place) (d : IsDigit (n % 10) b) where
+    pub ones-room : RoomForPart s at (decimal n) → RoomForPart s′ place (b ∷ [])
     ones-room h = rw (d .is) (room-rest s at _ s′ place w _ (rw (decimal-more n l) at h))
 
-    pub ones-wrote : (s″ : List ℕ) (end : ℕ) → Wrote s′ place (b ∷ []) s″ end → Wrote s at (decimal n) s″ end
+    pub ones-wrote : (s″ : List ℕ) (end : ℕ) → WroteText s′ place (b ∷ []) s″ end → WroteText s at (decimal n) s″ end
     ones-wrote s″ end v = rw (decimal-more n l) (wrote-both s at _ s′ place w _ s″ end (rw (d .is) at v))
 
 pub ruleset converting = (tens-room, only-room, only-wrote, ones-room, ones-wrote)

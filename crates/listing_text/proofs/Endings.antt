@@ -4,7 +4,7 @@ use mathlib.Core.Path.{_≡_}
 use mathlib.Core.List.{List}
 use borrow.Author.Tests.{ne-eqb}
 use Rattle.listing_text.specs.Text.{valueWord, spentWord, fullWord, endingWord}
-use Rattle.listing_text.specs.Wrote.{Room, Wrote}
+use Rattle.listing_text.specs.Parts.{RoomForPart, WroteText}
 
 -- n is an ending with that word.
 pub record Worded (n : ℕ) (word : List ℕ) : Type 0 where
@@ -25,10 +25,10 @@ module _ (n : ℕ) where
 
 -- Where the word is written, the ending's is.
 module _ (s : List ℕ) (at n : ℕ) (word : List ℕ) where
-  pub ending-room : Room s at (endingWord n) → Worded n word → Room s at word
+  pub ending-room : RoomForPart s at (endingWord n) → Worded n word → RoomForPart s at word
   ending-room h w = rw (w .is) at h
 
-  pub ending-wrote : (s′ : List ℕ) (end : ℕ) → Wrote s at word s′ end → Worded n word → Wrote s at (endingWord n) s′ end
+  pub ending-wrote : (s′ : List ℕ) (end : ℕ) → WroteText s at word s′ end → Worded n word → WroteText s at (endingWord n) s′ end
   ending-wrote s′ end h w = rw (w .is) h
 
 pub ruleset wording = (value-worded, spent-worded, ending-room, ending-wrote)

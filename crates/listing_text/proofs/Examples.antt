@@ -4,11 +4,11 @@ use mathlib.Core.List.{List, [], _∷_}
 use Prim.Native.Nat.{ℕ}
 use Rattle.rules.specs.Lists.{joined}
 use Rattle.rules.specs.Terms.{size, typeOf}
-use Rattle.rules.specs.Indices.{changed, raised, replaced}
-use Rattle.rules.specs.Steps.{value}
-use Rattle.rules.specs.Next.{next}
+use Rattle.rules.specs.Indices.{changed, raised, replaced, summed, gaveWay}
+use Rattle.rules.specs.Values.{value}
+use Rattle.rules.specs.Next.{waits, next}
 use Rattle.rules.specs.Links.{laid}
-use Rattle.rules.specs.Run.{Outcome, endingNumber, run}
+use Rattle.rules.specs.Run.{Outcome, endingNumber, course, run}
 use Rattle.rules.specs.BenchSheet.{table, num, identity, app}
 use Rattle.listing_text.specs.Decimal.{digits, decimal}
 use Rattle.listing_text.specs.Text.{spaced, numbers, line, endingWord, refusedText, recordLines, acceptedText}
@@ -26,7 +26,7 @@ k1Text =
 
 -- "K1. (function Nat: 0) 42, fuel 5." "K1 prints, whole:" that text.
 pub k1-prints : outcomeText (run table 5 (app 1 identity (num 42))) ≡ k1Text
-unfolding run value next replaced changed raised size laid joined digits decimal spaced numbers line endingWord recordLines acceptedText
+unfolding course value waits next replaced summed gaveWay changed raised size laid joined digits decimal spaced numbers line endingWord recordLines acceptedText
 k1-prints = refl
 
 -- "Fuel cut short is `refused 3 0`."

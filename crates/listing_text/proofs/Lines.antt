@@ -10,22 +10,22 @@ use Rattle.rules.specs.Format.{Record}
 use Rattle.rules.proofs.Bytes.{RecordFits}
 use Rattle.listing_text.specs.Decimal.{decimal}
 use Rattle.listing_text.specs.Text.{spaced, numbers, line, refusedWord, valueWord, spentWord, fullWord, endingWord, refusedText, firstLine, recordLine}
-use Rattle.listing_text.specs.Wrote.{Room, Wrote}
+use Rattle.listing_text.specs.Parts.{RoomForPart, WroteText}
 use Rattle.listing_text.proofs.Parts.{room-first, room-rest, wrote-both}
 use Rattle.listing_text.proofs.Decimals.{decimal-short}
 
 -- The word, then the numbers.
 module _ (s : List ℕ) (at : ℕ) (word ns : List ℕ) where
-  pub word-room : Room s at (line word ns) → Room s at word
+  pub word-room : RoomForPart s at (line word ns) → RoomForPart s at word
   unfolding line
   word-room h = room-first s at word (numbers ns) h
 
-  module _ (s′ : List ℕ) (place : ℕ) (w : Wrote s at word s′ place) where
-    pub numbers-room : Room s at (line word ns) → Room s′ place (numbers ns)
+  module _ (s′ : List ℕ) (place : ℕ) (w : WroteText s at word s′ place) where
+    pub numbers-room : RoomForPart s at (line word ns) → RoomForPart s′ place (numbers ns)
     unfolding line
     numbers-room h = room-rest s at word s′ place w (numbers ns) h
 
-    pub line-wrote : (s″ : List ℕ) (end : ℕ) → Wrote s′ place (numbers ns) s″ end → Wrote s at (line word ns) s″ end
+    pub line-wrote : (s″ : List ℕ) (end : ℕ) → WroteText s′ place (numbers ns) s″ end → WroteText s at (line word ns) s″ end
     unfolding line
     line-wrote s″ end v = wrote-both s at word s′ place w (numbers ns) s″ end v
 

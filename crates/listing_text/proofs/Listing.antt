@@ -12,7 +12,7 @@ use mir.Val.{Fits}
 use Rattle.rules.specs.Format.{Record, noRecord}
 use Rattle.rules.proofs.Bytes.{RecordFits}
 use Rattle.listing_text.specs.Text.{recordLine, recordLines}
-use Rattle.listing_text.specs.Wrote.{Room, Wrote}
+use Rattle.listing_text.specs.Parts.{RoomForPart, WroteText}
 use Rattle.listing_text.specs.Buffers.{RoomForRecords}
 use Rattle.listing_text.proofs.Parts.{nothing-wrote, wrote-length, wrote-both}
 use Rattle.listing_text.proofs.Lines.{record-short}
@@ -36,7 +36,7 @@ pub record Listing (rs : List Record) (count : ℕ) (s : List ℕ) (at : ℕ) (s
   pub given : RoomForRecords rs count s at
   pub reached : i ≤ count
   pub short : end ≤ at + 64 * i
-  pub wrote : Wrote s at (recordLines 1 (take i rs)) s′ end
+  pub wrote : WroteText s at (recordLines 1 (take i rs)) s′ end
 
 module _ (rs : List Record) (count : ℕ) (s : List ℕ) (at : ℕ) where
   pub listing-starts : RoomForRecords rs count s at → Listing rs count s at s at 0
@@ -55,10 +55,10 @@ module _ (rs : List Record) (count : ℕ) (s : List ℕ) (at : ℕ) where
         line-fits : length (recordLine (i + 1) r) ≤ 64
         line-fits = record-short (i + 1) r (omega (arith, p .given .few)) f
 
-        pub listing-room : Room s′ end (recordLine (i + 1) r)
+        pub listing-room : RoomForPart s′ end (recordLine (i + 1) r)
         listing-room = record { enough = omega (arith, line-fits, p .short, p .given .room, wrote-length s at _ s′ end (p .wrote)) }
 
-        pub listing-goes-on : (s″ : List ℕ) (end′ : ℕ) → Wrote s′ end (recordLine (i + 1) r) s″ end′ → Listing rs count s at s″ end′ (i + 1)
+        pub listing-goes-on : (s″ : List ℕ) (end′ : ℕ) → WroteText s′ end (recordLine (i + 1) r) s″ end′ → Listing rs count s at s″ end′ (i + 1)
         listing-goes-on s″ end′ w = record {
           given = p .given;
           reached = omega arith;
@@ -66,7 +66,7 @@ module _ (rs : List Record) (count : ℕ) (s : List ℕ) (at : ℕ) where
           wrote = rw (lines-more rs i listing-reads, ← e) (wrote-both s at _ s′ end (p .wrote) _ s″ end′ w);
         }
 
-    pub listing-ends : count ≤ i → Wrote s at (recordLines 1 rs) s′ end
+    pub listing-ends : count ≤ i → WroteText s at (recordLines 1 rs) s′ end
     listing-ends l = rw (take-all i rs (omega (arith, p .given .counts))) at (p .wrote)
 
 pub ruleset listing = (listing-starts, listing-reads, listing-number, listing-room, listing-goes-on, listing-ends)

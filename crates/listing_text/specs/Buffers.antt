@@ -4,7 +4,7 @@ use mathlib.Core.List.{List, _++_}
 use mathlib.Core.Path.{_≡_}
 use lib.ListN.{length, drop}
 use Rattle.rules.specs.Format.{Record}
-use Rattle.rules.specs.Run.{mostRecords}
+use Rattle.rules.specs.Format.{mostRecords}
 
 -- There is room for the lines of `count` records from place `at` on.
 pub record RoomForRecords (rs : List Record) (count : ℕ) (s : List ℕ) (at : ℕ) : Type 0 where

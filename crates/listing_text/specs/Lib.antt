@@ -1,5 +1,5 @@
 -- What the contracts of the crate cite.
 pub mod Decimal
 pub mod Text
-pub mod Wrote
+pub mod Parts
 pub mod Buffers

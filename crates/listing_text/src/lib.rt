@@ -6,14 +6,14 @@ ghost use Rattle.records.specs.View.{recordsIn};
 ghost use Rattle.records.specs.Meant.{recordMeant};
 ghost use Rattle.listing_text.specs.Decimal.{IsDigit, decimal};
 ghost use Rattle.listing_text.specs.Text.{spaced, numbers, endingWord, refusedText, firstLine, recordLine, recordLines, acceptedText};
-ghost use Rattle.listing_text.specs.Wrote.{Room, Wrote};
+ghost use Rattle.listing_text.specs.Parts.{RoomForPart, WroteText};
 ghost use Rattle.listing_text.specs.Buffers.{RoomForRecords, OneLine, Listable, Prints};
 use records::Record;
 
 // One byte.
 fn put_byte(text: &mut [u8], at: usize, byte: u8) -> usize
-    requires { ⌜ Room (now text) at (byte ∷ []) ⌝ }
-    ensures { λ r. ⌜ Wrote (now (text .entry)) at (byte ∷ []) (now (text .exit)) r ⌝ }
+    requires { ⌜ RoomForPart (now text) at (byte ∷ []) ⌝ }
+    ensures { λ r. ⌜ WroteText (now (text .entry)) at (byte ∷ []) (now (text .exit)) r ⌝ }
 {
     let next = at + 1;
     text[at] = byte;
@@ -22,8 +22,8 @@ fn put_byte(text: &mut [u8], at: usize, byte: u8) -> usize
 
 // The bytes of a word.
 fn put_word(text: &mut [u8], at: usize, word: &[u8]) -> usize
-    requires { ⌜ Room (now text) at (now word) ⌝ }
-    ensures { λ r. ⌜ Wrote (now (text .entry)) at (now (word .entry)) (now (text .exit)) r ⌝ }
+    requires { ⌜ RoomForPart (now text) at (now word) ⌝ }
+    ensures { λ r. ⌜ WroteText (now (text .entry)) at (now (word .entry)) (now (text .exit)) r ⌝ }
 {
     let mut place = at;
     let mut i = 0;
@@ -44,8 +44,8 @@ fn digit_of(n: u32) -> u8
 
 // The digits of a number: those of its tens, then that of its ones.
 fn put_decimal(text: &mut [u8], at: usize, n: u32) -> usize
-    requires { ⌜ Room (now text) at (decimal n) ⌝ }
-    ensures { λ r. ⌜ Wrote (now (text .entry)) at (decimal n) (now (text .exit)) r ⌝ }
+    requires { ⌜ RoomForPart (now text) at (decimal n) ⌝ }
+    ensures { λ r. ⌜ WroteText (now (text .entry)) at (decimal n) (now (text .exit)) r ⌝ }
 {
     if n < 10 {
         return put_byte(text, at, digit_of(n));
@@ -56,8 +56,8 @@ fn put_decimal(text: &mut [u8], at: usize, n: u32) -> usize
 
 // A space and a number.
 fn put_spaced(text: &mut [u8], at: usize, n: u32) -> usize
-    requires { ⌜ Room (now text) at (spaced n) ⌝ }
-    ensures { λ r. ⌜ Wrote (now (text .entry)) at (spaced n) (now (text .exit)) r ⌝ }
+    requires { ⌜ RoomForPart (now text) at (spaced n) ⌝ }
+    ensures { λ r. ⌜ WroteText (now (text .entry)) at (spaced n) (now (text .exit)) r ⌝ }
 {
     let place = put_byte(text, at, b' ');
     put_decimal(text, place, n)
@@ -65,8 +65,8 @@ fn put_spaced(text: &mut [u8], at: usize, n: u32) -> usize
 
 // What follows the first word of a line: numbers, each after a space, and a newline.
 fn put_numbers(text: &mut [u8], at: usize, ns: &[u32]) -> usize
-    requires { ⌜ Room (now text) at (numbers (now ns)) ⌝ }
-    ensures { λ r. ⌜ Wrote (now (text .entry)) at (numbers (now (ns .entry))) (now (text .exit)) r ⌝ }
+    requires { ⌜ RoomForPart (now text) at (numbers (now ns)) ⌝ }
+    ensures { λ r. ⌜ WroteText (now (text .entry)) at (numbers (now (ns .entry))) (now (text .exit)) r ⌝ }
 {
     let mut place = at;
     let mut i = 0;
@@ -79,8 +79,8 @@ fn put_numbers(text: &mut [u8], at: usize, ns: &[u32]) -> usize
 
 // The word of an ending.
 fn put_ending(text: &mut [u8], ending: u32) -> usize
-    requires { ⌜ Room (now text) 0 (endingWord ending) ⌝ }
-    ensures { λ r. ⌜ Wrote (now (text .entry)) 0 (endingWord ending) (now (text .exit)) r ⌝ }
+    requires { ⌜ RoomForPart (now text) 0 (endingWord ending) ⌝ }
+    ensures { λ r. ⌜ WroteText (now (text .entry)) 0 (endingWord ending) (now (text .exit)) r ⌝ }
 {
     match ending {
         1 => put_word(text, 0, b"value"),
@@ -91,8 +91,8 @@ fn put_ending(text: &mut [u8], ending: u32) -> usize
 
 // The line of record `n`.
 fn put_record(text: &mut [u8], at: usize, n: u32, r: Record) -> usize
-    requires { ⌜ Room (now text) at (recordLine n (recordMeant r)) ⌝ }
-    ensures { λ e. ⌜ Wrote (now (text .entry)) at (recordLine n (recordMeant r)) (now (text .exit)) e ⌝ }
+    requires { ⌜ RoomForPart (now text) at (recordLine n (recordMeant r)) ⌝ }
+    ensures { λ e. ⌜ WroteText (now (text .entry)) at (recordLine n (recordMeant r)) (now (text .exit)) e ⌝ }
 {
     let place = put_decimal(text, at, n);
     let fields = [
@@ -109,8 +109,8 @@ fn put_record(text: &mut [u8], at: usize, n: u32, r: Record) -> usize
 
 // The first line of an accepted run.
 fn put_first(text: &mut [u8], ending: u32, steps: u32, root: u32, count: u32) -> usize
-    requires { ⌜ Room (now text) 0 (firstLine ending steps root count) ⌝ }
-    ensures { λ r. ⌜ Wrote (now (text .entry)) 0 (firstLine ending steps root count) (now (text .exit)) r ⌝ }
+    requires { ⌜ RoomForPart (now text) 0 (firstLine ending steps root count) ⌝ }
+    ensures { λ r. ⌜ WroteText (now (text .entry)) 0 (firstLine ending steps root count) (now (text .exit)) r ⌝ }
 {
     let place = put_ending(text, ending);
     put_numbers(text, place, &[steps, root, count])
@@ -119,7 +119,7 @@ fn put_first(text: &mut [u8], ending: u32, steps: u32, root: u32, count: u32) ->
 // The lines of `count` records, numbered from 1.
 fn put_records(text: &mut [u8], at: usize, records: &[u8], count: usize) -> usize
     requires { ⌜ RoomForRecords (recordsIn (now records)) count (now text) at ⌝ }
-    ensures { λ r. ⌜ Wrote (now (text .entry)) at (recordLines 1 (recordsIn (now (records .entry)))) (now (text .exit)) r ⌝ }
+    ensures { λ r. ⌜ WroteText (now (text .entry)) at (recordLines 1 (recordsIn (now (records .entry)))) (now (text .exit)) r ⌝ }
 {
     let mut place = at;
     let mut i = 0;

@@ -1,5 +1,4 @@
 -- The laws of the listing.
-pub mod Numbered
 pub mod Runs
 pub mod Showing
 pub mod Printed

@@ -53,7 +53,7 @@ module _ (out work text : List ℕ) (lent : Lent out work text) (input : List �
     pub shows-records : Listable (a .ending) (recordsIn part) text
     shows-records = record { some = listed .ending .0; known = listed .ending .1; few = listed .few; room = omega (arith, listed .few, lent .text-long) }
 
-    pub shows-run : 4 ≤ length input → fuel ≡ u32 input 0 → (text′ : List ℕ) (n : ℕ) → Prints text (acceptedText (a .ending) (a .steps) (a .root) (recordsIn part)) text′ n → Prints text (listingOf input) text′ n
+    pub shows-run : 4 ≤ length input → fuel ≡ u32 input 0 → (text′ : List ℕ) (n : ℕ) → Prints text (acceptedText (a .ending) (a .steps) (a .«root_type») (recordsIn part)) text′ n → Prints text (listingOf input) text′ n
     shows-run l e text′ n h = subst (λ s. Prints text s text′ n) (listed .text ∙ run-listing input fuel l e) h
 
 pub ruleset showing = (fuel-short, shows-refusal, shows-from, shows-to, shows-records, shows-run)

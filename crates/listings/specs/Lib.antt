@@ -1,3 +1,3 @@
--- What the listing of an input is, and what its printing asks.
+-- What the listing of an input is, and the buffers that it is made in.
 pub mod Listing
 pub mod Lent

@@ -1,26 +1,27 @@
 -- The listing of an input, 4 bytes of fuel and a program: what the listing program prints.
-use Prim.Native.Nat.{ℕ}
+use Prim.Native.Nat.{ℕ, _+_, _*_}
 use mathlib.Core.List.{List}
 use mathlib.Core.Bool.{true, false}
-use mathlib.Core.Option.{none, some}
-use lib.Dec.{ltb}
+use lib.Dec.{eqb, ltb}
 use lib.ListN.{length, drop}
-use Rattle.rules.specs.Terms.{typeOf}
-use Rattle.rules.specs.Format.{u32}
-use Rattle.rules.specs.Links.{laid}
+use Rattle.rules.specs.Lists.{pick}
+use Rattle.rules.specs.Editions.{firstEdition}
+use Rattle.rules.specs.Format.{mostRecords, u32, tableOf, recordsOf}
 use Rattle.rules.specs.Refusals.{programShort}
-use Rattle.rules.specs.Check.{refusal}
-use Rattle.rules.specs.Run.{endingNumber, outcome}
+use Rattle.rules.specs.Run.{RunAnswer, programCourse, output, outputNeeded, workNeeded, runAnswer}
 use Rattle.listing_text.specs.Text.{refusedText, acceptedText}
 
--- Of a program that is run with the fuel: its refusal, or how the run ended and the records of its last term.
+-- The longest text: 64 bytes for each of 2,049 lines.
+abbrev pub textLength : ℕ
+textLength = 64 * (1 + mostRecords)
+
+-- What is listed of a run's answer and of the bytes that it writes.
+abbrev pub answerText : RunAnswer → List ℕ → List ℕ
+answerText a bytes = pick (eqb (a .number) 0) (acceptedText (a .ending) (a .steps) (a .rootType) (recordsOf bytes)) (refusedText (a .number) (a .place))
+
+-- Of a program that is run with the fuel, in buffers that are long enough.
 unfoldable pub runText : List ℕ → ℕ → List ℕ
-runText program fuel = elim (refusal program) [
-  | none ↦
-      let o = outcome program fuel in
-      acceptedText (endingNumber (o .ending)) (o .steps) (typeOf (o .last)) (laid 1 0 (o .last))
-  | some q ↦ refusedText (q .number) (q .place)
-]
+runText program fuel = answerText (runAnswer firstEdition program fuel outputNeeded workNeeded) (output (tableOf program) (programCourse program fuel .last))
 
 -- "The listing program reads 4 bytes of fuel and a program from standard input"; "fuel cut short is `refused 3 0`".
 unfoldable pub listingOf : List ℕ → List ℕ

@@ -2,7 +2,7 @@
 pub mod Places
 pub mod Making
 pub mod Rewriting
-pub mod Sought
+pub mod Candidates
 pub mod Reading
 pub mod Matching
 pub mod Succeeding

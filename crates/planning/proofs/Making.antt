@@ -9,7 +9,7 @@ use Rattle.rules.specs.Lists.{pick}
 use Rattle.rules.specs.Terms.{Term, size}
 use Rattle.rules.specs.Indices.{replaced}
 use Rattle.rules.specs.Types.{Table}
-use Rattle.rules.specs.Steps.{quoted, opened}
+use Rattle.rules.specs.Matching.{quoted, opened}
 use Rattle.rules.specs.Format.{Record}
 use Rattle.records.specs.declared.Entry.{Entry}
 use Rattle.records.specs.Places.{IsEntry}
@@ -17,7 +17,7 @@ use Rattle.replacing.specs.declared.Argument.{Argument}
 use Rattle.replacing.specs.Arguments.{described}
 use Rattle.planning.specs.declared.Plan.{Plan}
 use Rattle.planning.specs.Shapes.{noArgument, treeAt, quoteAt, openedAt, IsOpened, asItIs, withOne, withTwo, madeAnew}
-use Rattle.planning.specs.Planned.{Inside, StandsFor, itself, replacing, anew, Planned}
+use Rattle.planning.specs.Planned.{Inside, StandsFor, itself, from-body, anew, Planned}
 
 -- Plans with equal arguments are equal.
 pub made-of : (form i n m end : ℕ) {g g′ h h′ : Argument} → g ≡ g′ → h ≡ h′
@@ -52,7 +52,7 @@ module _ {rs : List Record} {p end : ℕ} {r : Term} (e : end ≡ p + size r) wh
     pub one-planned : Planned rs p (withOne i n g end) r (replaced (t ∷ []) b)
     one-planned = record {
       end = e;
-      made = replacing b (t ∷ []) h long (record { some = omega arith; most = omega arith; count = refl; each = each }) refl;
+      made = from-body b (t ∷ []) h long (record { some = omega arith; most = omega arith; count = refl; each = each }) refl;
       spare = record { at = λ z. absurd (omega arith); size = λ z. absurd (omega arith); m = λ n. absurd (n refl); first = λ z. absurd (omega arith); second = λ n. refl };
     }
       where
@@ -63,7 +63,7 @@ module _ {rs : List Record} {p end : ℕ} {r : Term} (e : end ≡ p + size r) wh
     pub two-planned : {g′ : Argument} {u : Term} → StandsFor rs p end g′ u → Planned rs p (withTwo i n g g′ end) r (replaced (t ∷ u ∷ []) b)
     two-planned {g′} {u} s′ = record {
       end = e;
-      made = replacing b (t ∷ u ∷ []) h long (record { some = omega arith; most = omega arith; count = refl; each = each }) refl;
+      made = from-body b (t ∷ u ∷ []) h long (record { some = omega arith; most = omega arith; count = refl; each = each }) refl;
       spare = record { at = λ z. absurd (omega arith); size = λ z. absurd (omega arith); m = λ n. absurd (n refl); first = λ z. absurd (omega arith); second = λ n. absurd (n refl) };
     }
       where

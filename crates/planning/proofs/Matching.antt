@@ -10,12 +10,14 @@ use lib.ListN.{length, getD}
 use mir.Syntax.{w64}
 use mir.Val.{Fits}
 use Rattle.rules.specs.Lists.{pick}
-use Rattle.rules.specs.Kinds.{application, Ternary, ternary₃, kindNumber, kindOf}
-use Rattle.rules.specs.Terms.{Term, binary, rootKind, fieldsOf, typeOf}
+use Rattle.rules.specs.Kinds.{application, Match, kindNumber, kindOf}
+use Rattle.rules.specs.Terms.{Term, binary, rootKind, fieldsOf, typeOf, numberHeld}
 use Rattle.rules.specs.Types.{Table, partA}
-use Rattle.rules.specs.Steps.{quoted, matched}
+use Rattle.rules.specs.Matching.{quoted, matched, sought}
+use Rattle.rules.specs.Sought.{soughtNumber}
 use Rattle.rules.specs.Format.{Record, noRecord}
 use Rattle.rules.proofs.KindTable.{kind-back}
+use Rattle.rules.proofs.RuleKinds.{fails-unsought}
 use Rattle.records.specs.declared.Record.{Record as Read}
 use Rattle.records.specs.declared.Entry.{Entry as ReadEntry}
 use Rattle.records.specs.Meant.{recordMeant}
@@ -24,8 +26,8 @@ use Rattle.records.specs.View.{recordsIn}
 use Rattle.records.proofs.Records.{records-length}
 use Rattle.terms.specs.Preorder.{head, At, HasTree, Skips}
 use Rattle.terms.proofs.Trees.{at-first, at-head}
-use Rattle.planning.specs.Matches.{sought, Match, matchTerm, isSome, HasMatch, TellsMatch, HasApplication, SecondType}
-use Rattle.planning.proofs.Sought.{not-sought, Candidate, same-number, same-variable, an-application, a-number, a-function, a-fix, candidate}
+use Rattle.planning.specs.Matches.{MatchRedex, matchTerm, isSome, HasMatch, TellsMatch, HasApplication, SecondType}
+use Rattle.planning.proofs.Candidates.{Candidate, same-number, same-variable, an-application, a-number, a-function, a-fix, candidate}
 use Rattle.planning.proofs.Reading.{code-there, fields-read, kind-read, kind-known}
 
 -- The argument of an application stands behind its function.
@@ -53,38 +55,38 @@ test-told false ts = refl
 
 -- The records x and y of the match and of its code are read, and n is the number of the kind that it looks for.
 module _ (types : Table) (rs : List Record) (p : ℕ) (x y : Read) (n : ℕ) (ex : recordMeant x ≡ getD rs p noRecord) (ey : recordMeant y ≡ getD rs (p + 2) noRecord)
-    (en : n ≡ kindNumber (sought (kindOf (x .kind)))) where
-  module _ (m : Match) (h : At rs p (matchTerm m)) where
+    (en : n ≡ soughtNumber (kindOf (x .kind))) where
+  module _ (m : MatchRedex) (h : At rs p (matchTerm m)) where
     code-read : recordMeant y ≡ head (m .code)
     code-read = ey ∙ at-head rs (p + 2) (m .code) (code-there rs p m h)
 
     code-kind : y .kind ≡ kindNumber (rootKind (m .code))
     code-kind = ap (λ r. r .kind) code-read
 
-    sought-read : n ≡ kindNumber (sought (ternary₃ (m .kind)))
-    sought-read = en ∙ ap (λ k. kindNumber (sought k)) (kind-known rs p m h x ex)
+    sought-read : n ≡ kindNumber (sought (m .kind))
+    sought-read = en ∙ ap soughtNumber (kind-known rs p m h x ex)
 
     code-candidate : y .kind ≡ n → Candidate (x .kind) (m .kind) (m .code)
     code-candidate q =
-        let r = sym (kind-back (rootKind (m .code))) ∙ ap kindOf (sym code-kind ∙ q ∙ sought-read) ∙ kind-back (sought (ternary₃ (m .kind))) in
+        let r = sym (kind-back (rootKind (m .code))) ∙ ap kindOf (sym code-kind ∙ q ∙ sought-read) ∙ kind-back (sought (m .kind)) in
         subst (λ i. Candidate i (m .kind) (m .code)) (sym (kind-read rs p m h x ex)) (candidate (m .kind) (m .code) r)
 
   pub told-other : (y .kind ≡ n → ⊥) → TellsMatch types rs p false
-  told-other z = record { is = λ m h. sym (ap isSome (not-sought types (m .kind) (m .fields) (m .code) (λ q. z (code-kind m h ∙ ap kindNumber q ∙ sym (sought-read m h))))) }
+  told-other z = record { is = λ m h. sym (ap isSome (fails-unsought types (m .kind) (m .fields) (m .code) (λ q. z (code-kind m h ∙ ap kindNumber q ∙ sym (sought-read m h))))) }
 
   module _ (q : y .kind ≡ n) where
-    candidate-by : (i : ℕ) → x .kind ≡ i → (m : Match) → At rs p (matchTerm m) → Candidate i (m .kind) (m .code)
+    candidate-by : (i : ℕ) → x .kind ≡ i → (m : MatchRedex) → At rs p (matchTerm m) → Candidate i (m .kind) (m .code)
     candidate-by i w m h = subst (λ i. Candidate i (m .kind) (m .code)) w (code-candidate m h q)
 
     pub application-there : HasMatch types rs p → x .kind ≡ 11 → HasApplication rs (p + 2)
-    application-there v w = go (candidate-by 11 w (v .match) (v .there)) (code-there rs p (v .match) (v .there))
+    application-there v w = go (candidate-by 11 w (v .found) (v .there)) (code-there rs p (v .found) (v .there))
       where
-        go : {k : Ternary} {c : Term} → Candidate 11 k c → At rs (p + 2) c → HasApplication rs (p + 2)
+        go : {k : Match} {c : Term} → Candidate 11 k c → At rs (p + 2) c → HasApplication rs (p + 2)
         go (an-application g t u) h = record { fields = g; first = t; second = u; there = h }
 
     -- b is right of code that a match of kind i looks for.
     abbrev Told : ℕ → Bool → Type 0
-    Told i b = (k : Ternary) (c : Term) → Candidate i k c → recordMeant y .fields ≡ fieldsOf c → At rs (p + 2) c → b ≡ isSome (matched types k (recordMeant x .fields) c)
+    Told i b = (k : Match) (c : Term) → Candidate i k c → recordMeant y .fields ≡ fieldsOf c → At rs (p + 2) c → b ≡ isSome (matched types k (recordMeant x .fields) c)
 
     told-by : (i : ℕ) (b : Bool) → x .kind ≡ i → Told i b → TellsMatch types rs p b
     told-by i b w told = record {
@@ -93,12 +95,13 @@ module _ (types : Table) (rs : List Record) (p : ℕ) (x y : Read) (n : ℕ) (ex
           ∙ ap (λ f. isSome (matched types (m .kind) f (m .code))) (fields-read rs p m h x ex);
     }
 
-    pub told-number : x .kind ≡ 9 → TellsMatch types rs p (eqb (y .value) (x .value))
+    pub told-number : (a b : ℕ) → x .kind ≡ 9 → a ≡ numberHeld (recordMeant y .fields) → b ≡ numberHeld (recordMeant x .fields) → TellsMatch types rs p (eqb a b)
     unfolding matched
-    told-number w = told-by 9 (eqb (y .value) (x .value)) w go
+    told-number a b w ea eb = told-by 9 (eqb a b) w go
       where
-        go : Told 9 (eqb (y .value) (x .value))
-        go k c (same-number g) e h = ap (λ f. eqb (f .value) (x .value)) e ∙ test-told (eqb (g .value) (x .value)) []
+        go : Told 9 (eqb a b)
+        go k c (same-number g) e h =
+            ap₂ eqb (ea ∙ ap (λ f. numberHeld f) e) eb ∙ test-told (eqb (numberHeld g) (numberHeld (recordMeant x .fields))) []
 
     pub told-variable : x .kind ≡ 10 → TellsMatch types rs p (eqb (y .a) (x .a))
     unfolding matched
@@ -119,7 +122,7 @@ module _ (types : Table) (rs : List Record) (p : ℕ) (x y : Read) (n : ℕ) (ex
     unfolding matched
     told-always a b d = told-by (x .kind) true refl (λ k c. go (x .kind) k c a b d)
       where
-        go : (i : ℕ) (k : Ternary) (c : Term) → (i ≡ 9 → ⊥) → (i ≡ 10 → ⊥) → (i ≡ 11 → ⊥) → Candidate i k c → recordMeant y .fields ≡ fieldsOf c → At rs (p + 2) c → true ≡ isSome (matched types k (recordMeant x .fields) c)
+        go : (i : ℕ) (k : Match) (c : Term) → (i ≡ 9 → ⊥) → (i ≡ 10 → ⊥) → (i ≡ 11 → ⊥) → Candidate i k c → recordMeant y .fields ≡ fieldsOf c → At rs (p + 2) c → true ≡ isSome (matched types k (recordMeant x .fields) c)
         go i k c a b d (same-number g) e h = absurd (a refl)
         go i k c a b d (same-variable g) e h = absurd (b refl)
         go i k c a b d (an-application g v u) e h = absurd (d refl)

@@ -8,12 +8,13 @@ use mathlib.Core.Path.{_≡_, refl, ap, ap₂, sym, subst, _∙_}
 use lib.Dec.{eqb}
 use lib.ListN.{getD}
 use Rattle.rules.specs.Lists.{pick}
-use Rattle.rules.specs.Kinds.{number, function, fix, quote, application, Ternary}
-use Rattle.rules.specs.Terms.{Term, leaf, unary, typeOf, size}
+use Rattle.rules.specs.Kinds.{number, function, fix, quote, application, Match, match}
+use Rattle.rules.specs.Terms.{Term, leaf, unary, typeOf, numberHeld, size}
 use Rattle.rules.specs.Indices.{replaced}
 use Rattle.rules.specs.Types.{Table, partA}
-use Rattle.rules.specs.Steps.{quoted, opened, matched}
+use Rattle.rules.specs.Matching.{quoted, opened, matched}
 use Rattle.rules.specs.Format.{Record, noRecord}
+use Rattle.rules.proofs.RuleKinds.{seeks}
 use Rattle.records.specs.declared.Record.{Record as Read}
 use Rattle.records.specs.Meant.{recordMeant}
 use Rattle.terms.specs.Preorder.{At, HasTree, Skips}
@@ -21,11 +22,11 @@ use Rattle.replacing.specs.declared.Argument.{Argument}
 use Rattle.planning.specs.declared.Plan.{Plan}
 use Rattle.planning.specs.Shapes.{treeAt, quoteAt, openedAt, IsOpened, asItIs, withOne, withTwo}
 use Rattle.planning.specs.Planned.{Inside, StandsFor, Planned}
-use Rattle.planning.specs.Matches.{Match, matchTerm, taken, CanSucceed, PlansSuccess}
+use Rattle.planning.specs.Matches.{MatchRedex, matchTerm, taken, CanSucceed, PlansSuccess}
 use Rattle.replacing.proofs.Indices.{replaced-none}
 use Rattle.planning.proofs.Places.{whole, only-child, first-of-two, second-of-two, first-of-three, second-of-three}
 use Rattle.planning.proofs.Making.{tree-stands, quote-stands, opened-stands, itself-planned, one-planned, two-planned}
-use Rattle.planning.proofs.Sought.{matched-sought, Candidate, same-number, same-variable, an-application, a-number, a-function, a-fix, candidate}
+use Rattle.planning.proofs.Candidates.{Candidate, same-number, same-variable, an-application, a-number, a-function, a-fix, candidate}
 use Rattle.planning.proofs.Reading.{code-there, fields-read, kind-read}
 
 -- A test that gave something gave that.
@@ -35,21 +36,21 @@ test-gave false ts us e = let z : _≡_ {A = ℕ} 0 1 = cc in absurd (omega arit
 
 -- The record x of the match is read; its success, of n records, is at s, and `end` is the place after the match.
 module _ (types : Table) (rs : List Record) (p s n end : ℕ) (x : Read) (ex : recordMeant x ≡ getD rs p noRecord) where
-  candidate-by : (i : ℕ) → x .kind ≡ i → (m : Match) (ts : List Term) → At rs p (matchTerm m) → taken types m ≡ some ts → Candidate i (m .kind) (m .code)
+  candidate-by : (i : ℕ) → x .kind ≡ i → (m : MatchRedex) (ts : List Term) → At rs p (matchTerm m) → taken types m ≡ some ts → Candidate i (m .kind) (m .code)
   candidate-by i w m ts h e =
-      subst (λ i. Candidate i (m .kind) (m .code)) (sym (kind-read rs p m h x ex) ∙ w) (candidate (m .kind) (m .code) (matched-sought types (m .kind) (m .fields) (m .code) ts e))
+      subst (λ i. Candidate i (m .kind) (m .code)) (sym (kind-read rs p m h x ex) ∙ w) (candidate (m .kind) (m .code) (seeks types (m .kind) (m .fields) (m .code) ts e))
 
   pub function-there : CanSucceed types rs p s n end → x .kind ≡ 11 → HasTree rs (p + 3)
   unfolding At
-  function-there v w = go (candidate-by 11 w (v .has .match) (v .bound) (v .has .there) (v .matches)) (code-there rs p (v .has .match) (v .has .there))
+  function-there v w = go (candidate-by 11 w (v .has .found) (v .bound) (v .has .there) (v .matches)) (code-there rs p (v .has .found) (v .has .there))
     where
-      go : {k : Ternary} {c : Term} → Candidate 11 k c → At rs (p + 2) c → HasTree rs (p + 3)
+      go : {k : Match} {c : Term} → Candidate 11 k c → At rs (p + 2) c → HasTree rs (p + 3)
       go (an-application g t u) h = record { tree = t; there = let e : p + 2 + 1 ≡ p + 3 = omega arith in subst (λ i. At rs i t) e (h .2) }
 
   -- The plan q is right of code c that a match of kind i takes, binding ts over b.
   abbrev Right : ℕ → Plan → Type 0
   Right i q =
-      (k : Ternary) (c : Term) → Candidate i k c → (ts : List Term) → matched types k (recordMeant x .fields) c ≡ some ts → (r b : Term) → end ≡ p + size r
+      (k : Match) (c : Term) → Candidate i k c → (ts : List Term) → matched types k (recordMeant x .fields) c ≡ some ts → (r b : Term) → end ≡ p + size r
       → Inside rs p end (p + 2) c → Inside rs p end s b → n ≡ size b → Planned rs p q r (replaced ts b)
 
   module _ (v : CanSucceed types rs p s n end) where
@@ -60,9 +61,9 @@ module _ (types : Table) (rs : List Record) (p s n end : ℕ) (x : Read) (ex : r
           let t = unary quote (m .fieldsOfQuote) (m .code) in
           let o = v .after m h in
           let all = whole rs p end (matchTerm m) h o in
-          let over = first-of-three rs p end p (p + 1) (m .kind) (m .fields) t (m .success) (m .failure) all refl in
+          let over = first-of-three rs p end p (p + 1) (match (m .kind)) (m .fields) t (m .success) (m .failure) all refl in
           let code = only-child rs p end (p + 1) (p + 2) quote (m .fieldsOfQuote) (m .code) (omega arith) over in
-          let won = second-of-three rs p end p s (m .kind) (m .fields) t (m .success) (m .failure) all (v .success .is t (over .there)) in
+          let won = second-of-three rs p end p s (match (m .kind)) (m .fields) t (m .success) (m .failure) all (v .success .is t (over .there)) in
           let known = ap (λ f. matched types (m .kind) f (m .code)) (fields-read rs p m h x ex) ∙ e in
           subst (λ q. Planned rs p q (matchTerm m) (replaced ts (m .success))) (sym eq) (right (m .kind) (m .code) (candidate-by i w m ts h e) ts known (matchTerm m) (m .success) o code won (v .long m h));
     }
@@ -82,7 +83,7 @@ module _ (types : Table) (rs : List Record) (p s n end : ℕ) (x : Read) (ex : r
 
     -- A match that binds one variable: g stands for what a match of kind i binds.
     abbrev Binds : ℕ → Argument → Type 0
-    Binds i g = (k : Ternary) (c : Term) → Candidate i k c → Inside rs p end (p + 2) c → (ts : List Term) → matched types k (recordMeant x .fields) c ≡ some ts → (t : Term) × (t ∷ [] ≡ ts) × StandsFor rs p end g t
+    Binds i g = (k : Match) (c : Term) → Candidate i k c → Inside rs p end (p + 2) c → (ts : List Term) → matched types k (recordMeant x .fields) c ≡ some ts → (t : Term) × (t ∷ [] ≡ ts) × StandsFor rs p end g t
 
     module _ (g : Argument) (q : Plan) (eq : q ≡ withOne s n g end) where
       one-by : (i : ℕ) (h : Argument) → x .kind ≡ i → g ≡ h → Binds i h → PlansSuccess types rs p q
@@ -117,8 +118,8 @@ module _ (types : Table) (rs : List Record) (p s n end : ℕ) (x : Read) (ex : r
     success-binds-none q a l f y eq = planned-by (x .kind) q (asItIs s n end) refl eq
         (λ k c z ts e r b o code won long. subst (λ ts. Planned rs p (asItIs s n end) r (replaced ts b)) (go (x .kind) k c a l f y z ts e) (rw (replaced-none b) (itself-planned o won long)))
       where
-        go : (i : ℕ) (k : Ternary) (c : Term) → (i ≡ 11 → ⊥) → (i ≡ 12 → ⊥) → (i ≡ 13 → ⊥) → (i ≡ 14 → ⊥) → Candidate i k c → (ts : List Term) → matched types k (recordMeant x .fields) c ≡ some ts → [] ≡ ts
-        go i k c a l f y (same-number g) ts e = test-gave (eqb (g .value) (x .value)) [] ts e
+        go : (i : ℕ) (k : Match) (c : Term) → (i ≡ 11 → ⊥) → (i ≡ 12 → ⊥) → (i ≡ 13 → ⊥) → (i ≡ 14 → ⊥) → Candidate i k c → (ts : List Term) → matched types k (recordMeant x .fields) c ≡ some ts → [] ≡ ts
+        go i k c a l f y (same-number g) ts e = test-gave (eqb (numberHeld g) (numberHeld (recordMeant x .fields))) [] ts e
         go i k c a l f y (same-variable g) ts e = test-gave (eqb (g .a) (x .a)) [] ts e
         go i k c a l f y (an-application g t u) ts e = absurd (a refl)
         go i k c a l f y (a-number g) ts e = absurd (l refl)

@@ -36,7 +36,7 @@ pub record Arguments (rs : List Record) (p : ℕ) (q : Plan) (ts : List Term) : 
 -- What is made, by the plan's form; the plan tells how many records the tree at its place has.
 pub data Made (rs : List Record) (p : ℕ) (q : Plan) (r′ : Term) : ℕ → Type 0 where
   itself : Inside rs p (q .end) (q .at) r′ → q .size ≡ size r′ → Made rs p q r′ 0
-  replacing : (body : Term) (ts : List Term) → Inside rs p (q .end) (q .at) body → q .size ≡ size body → Arguments rs p q ts → r′ ≡ replaced ts body → Made rs p q r′ 1
+  from-body : (body : Term) (ts : List Term) → Inside rs p (q .end) (q .at) body → q .size ≡ size body → Arguments rs p q ts → r′ ≡ replaced ts body → Made rs p q r′ 1
   anew : StandsFor rs p (q .end) (q .first) r′ → Made rs p q r′ 2
 
 -- What a form doesn't use is 0.

@@ -1,15 +1,12 @@
 -- The record that is rewritten, and the rules that ask nothing of the type table.
 use Prim.Native.Nat.{ℕ}
-use mathlib.Core.List.{List, [], _∷_}
-use Rattle.rules.specs.Kinds.{number, function, fix, lift, quote, splice, application}
-use Rattle.rules.specs.Terms.{Fields, Term, leaf, unary, binary}
-use Rattle.rules.specs.Indices.{replaced}
+use mathlib.Core.List.{List}
+use Rattle.rules.specs.Terms.{Term}
 use Rattle.rules.specs.Types.{Table}
 use Rattle.rules.specs.Typing.{Env, Typed}
-use Rattle.rules.specs.Steps.{quoted}
+use Rattle.rules.specs.Contractions.{StepRule, Contraction}
 use Rattle.rules.specs.Format.{Record}
 use Rattle.terms.specs.Preorder.{At}
-use Rattle.finding.specs.Contraction.{Contraction}
 use Rattle.planning.specs.declared.Plan.{Plan}
 use Rattle.planning.specs.Planned.{Planned}
 
@@ -17,29 +14,27 @@ use Rattle.planning.specs.Planned.{Planned}
 pub record CanPlan (types : Table) (rs : List Record) (p : ℕ) : Type 0 where
   pub binders : Env
   pub level : ℕ
+  pub rule : StepRule
+  pub replaced : ℕ
   pub redex : Term
   pub contractum : Term
   pub there : At rs p redex
-  pub contraction : Contraction types level redex contractum
+  pub contraction : Contraction types level rule replaced redex contractum
   pub typed : Typed types binders level redex
 
 -- q is the plan of what it is rewritten to.
 pub record Plans (types : Table) (rs : List Record) (p : ℕ) (q : Plan) : Type 0 where
-  pub is : (Γ : Env) (l : ℕ) (r r′ : Term) → At rs p r → Contraction types l r r′ → Typed types Γ l r → Planned rs p q r r′
+  pub is : (Γ : Env) (l : ℕ) (m : StepRule) (n : ℕ) (r r′ : Term) → At rs p r → Contraction types l m n r r′ → Typed types Γ l r → Planned rs p q r r′
 
--- The rules of `Contraction` but those of matches, by the number of the kind that they rewrite.
-pub data Rewrite : ℕ → Term → Term → Type 0 where
-  applied : (f g : Fields) (b v : Term) → Rewrite 4 (binary application f (unary function g b) v) (replaced (v ∷ []) b)
-  unrolled : (f g : Fields) (b : Term) → Rewrite 5 (unary fix f (unary function g b)) (replaced (unary fix f (unary function g b) ∷ []) b)
-  lifted : (f g : Fields) → Rewrite 6 (unary lift f (leaf number g)) (quoted (f .type) (leaf number g))
-  spliced : (f g : Fields) (c : Term) → Rewrite 8 (unary splice f (unary quote g c)) c
-
--- The tree at p is rewritten by the rule of kind n; q is the plan of what it is rewritten to.
-pub record HasRedex (rs : List Record) (p n : ℕ) : Type 0 where
+-- The tree at p is rewritten by the rule m; q is the plan of what that rule rewrites it to.
+pub record HasRedex (rs : List Record) (p : ℕ) (m : StepRule) : Type 0 where
+  pub types : Table
+  pub level : ℕ
+  pub replaced : ℕ
   pub redex : Term
   pub contractum : Term
   pub there : At rs p redex
-  pub rewrite : Rewrite n redex contractum
+  pub contraction : Contraction types level m replaced redex contractum
 
-pub record PlansRedex (rs : List Record) (p n : ℕ) (q : Plan) : Type 0 where
-  pub is : (r r′ : Term) → At rs p r → Rewrite n r r′ → Planned rs p q r r′
+pub record PlansRedex (rs : List Record) (p : ℕ) (m : StepRule) (q : Plan) : Type 0 where
+  pub is : (types : Table) (l n : ℕ) (r r′ : Term) → At rs p r → Contraction types l m n r r′ → Planned rs p q r r′

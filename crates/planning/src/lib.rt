@@ -1,11 +1,11 @@
 // What the record at a place is rewritten to, by places: nothing is copied here.
 ghost use mathlib.Core.Path.{_≡_};
-ghost use Rattle.rules.specs.Kinds.{kindNumber, kindOf};
+ghost use Rattle.rules.specs.Contractions.{onApplication, onFix, onLift, onSplice};
 ghost use Rattle.records.specs.View.{entriesIn, recordsIn};
 ghost use Rattle.records.specs.Places.{Within};
 ghost use Rattle.planning.specs.Shapes.{noArgument, treeAt, quoteAt, IsOpened, asItIs, withOne, withTwo, madeAnew};
 ghost use Rattle.planning.specs.Redexes.{HasRedex, PlansRedex, CanPlan, Plans};
-ghost use Rattle.planning.specs.Matches.{sought, HasMatch, PlansMatch, TellsMatch, CanSucceed, PlansSuccess, HasApplication, SecondType};
+ghost use Rattle.planning.specs.Matches.{HasMatch, PlansMatch, TellsMatch, CanSucceed, PlansSuccess, HasApplication, SecondType};
 use replacing::Argument;
 
 // Form 0: the tree at `at`, as it is. Form 1: the tree at `at`, its m variables replaced together by what `first`, for index 0, and `second`,
@@ -134,8 +134,8 @@ fn made_anew(first: Argument, end: usize) -> Plan
 
 // "The argument replaces the function's variable in its body."
 fn apply(w: &[u8], p: usize) -> Plan
-    requires { ⌜ HasRedex (recordsIn (now w)) p 4 ⌝ }
-    ensures { λ r. ⌜ PlansRedex (recordsIn (now (w .entry))) p 4 r ⌝ }
+    requires { ⌜ HasRedex (recordsIn (now w)) p onApplication ⌝ }
+    ensures { λ r. ⌜ PlansRedex (recordsIn (now (w .entry))) p onApplication r ⌝ }
 {
     let argument = terms::skip(w, p + 1);
     let end = terms::skip(w, argument);
@@ -145,8 +145,8 @@ fn apply(w: &[u8], p: usize) -> Plan
 
 // "The whole fix replaces the variable of its function in that body."
 fn unroll(w: &[u8], p: usize) -> Plan
-    requires { ⌜ HasRedex (recordsIn (now w)) p 5 ⌝ }
-    ensures { λ r. ⌜ PlansRedex (recordsIn (now (w .entry))) p 5 r ⌝ }
+    requires { ⌜ HasRedex (recordsIn (now w)) p onFix ⌝ }
+    ensures { λ r. ⌜ PlansRedex (recordsIn (now (w .entry))) p onFix r ⌝ }
 {
     let function = p + 1;
     let end = terms::skip(w, function);
@@ -156,8 +156,8 @@ fn unroll(w: &[u8], p: usize) -> Plan
 
 // "Lift of a number: quote of that number."
 fn lift(w: &[u8], p: usize) -> Plan
-    requires { ⌜ HasRedex (recordsIn (now w)) p 6 ⌝ }
-    ensures { λ r. ⌜ PlansRedex (recordsIn (now (w .entry))) p 6 r ⌝ }
+    requires { ⌜ HasRedex (recordsIn (now w)) p onLift ⌝ }
+    ensures { λ r. ⌜ PlansRedex (recordsIn (now (w .entry))) p onLift r ⌝ }
 {
     let r = records::get(w, p);
     let end = terms::skip(w, p);
@@ -166,26 +166,13 @@ fn lift(w: &[u8], p: usize) -> Plan
 
 // "Splice of a quote: the quoted tree."
 fn splice(w: &[u8], p: usize) -> Plan
-    requires { ⌜ HasRedex (recordsIn (now w)) p 8 ⌝ }
-    ensures { λ r. ⌜ PlansRedex (recordsIn (now (w .entry))) p 8 r ⌝ }
+    requires { ⌜ HasRedex (recordsIn (now w)) p onSplice ⌝ }
+    ensures { λ r. ⌜ PlansRedex (recordsIn (now (w .entry))) p onSplice r ⌝ }
 {
     let quote = p + 1;
     let end = terms::skip(w, quote);
     let tree = p + 2;
     as_it_is(tree, end - tree, end)
-}
-
-// The kind of code that a match of this kind looks for: 9 and 12 look for a number.
-fn sought_kind(kind: u16) -> u16
-    ensures { λ r. ⌜ r ≡ kindNumber (sought (kindOf kind)) ⌝ }
-{
-    match kind {
-        10 => 2,
-        11 => 4,
-        13 => 3,
-        14 => 5,
-        _ => 1,
-    }
 }
 
 // The type of the argument of the application at `i`.
@@ -206,11 +193,11 @@ fn matches(table: &[u8], w: &[u8], p: usize) -> bool
     let r = records::get(w, p);
     let code = records::get(w, p + 2);
     let kind = r.kind;
-    if code.kind != sought_kind(kind) {
+    if code.kind != rules::sought_kind(kind) {
         return false;
     }
     match kind {
-        9 => code.value == r.value,
+        9 => records::number_held(code) == records::number_held(r),
         10 => code.a == r.a,
         11 => {
             let b = records::entry_no(table, r.b);

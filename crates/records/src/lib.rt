@@ -3,6 +3,7 @@
 ghost use mathlib.Core.Path.{_≡_};
 ghost use Prim.Native.Nat.{_+_, _*_, _<_, _≤_};
 ghost use lib.ListN.{length, getD, drop};
+ghost use Rattle.rules.specs.Terms.{numberHeld};
 ghost use Rattle.rules.specs.Types.{noEntry};
 ghost use Rattle.rules.specs.Format.{u16, u32, bytes16, bytes32, entryOf, recordOf, entryBytes, recordBytes, noRecord};
 ghost use Rattle.records.specs.Overwritten.{overwritten};
@@ -129,6 +130,13 @@ pub fn get(s: &[u8], i: usize) -> Record
     ensures { λ r. ⌜ recordMeant r ≡ getD (recordsIn (now (s .entry))) i noRecord ⌝ }
 {
     record_at(s, 16 * i)
+}
+
+// The number that a record of kind 1 or 9 holds.
+pub fn number_held(r: Record) -> u32
+    ensures { λ n. ⌜ n ≡ numberHeld (recordMeant r .fields) ⌝ }
+{
+    r.value
 }
 
 // Writes a record at byte `x`.

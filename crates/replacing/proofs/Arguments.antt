@@ -12,30 +12,23 @@ use Rattle.rules.specs.Lists.{pick}
 use Rattle.rules.specs.Kinds.{function}
 use Rattle.rules.specs.Terms.{Term, unary, size}
 use Rattle.rules.specs.Indices.{changed, raised, wrapped}
-use Rattle.rules.specs.Types.{Table, partA, partB}
-use Rattle.rules.specs.Steps.{quoted, opened}
+use Rattle.rules.specs.Matching.{quoted}
 use Rattle.rules.specs.Format.{Record}
 use Rattle.records.specs.declared.Record.{Record as CodeRecord}
 use Rattle.records.specs.Meant.{recordMeant}
-use Rattle.terms.specs.Preorder.{preorder, puts}
+use Rattle.terms.specs.Preorder.{preorder, puts, Stored}
 use Rattle.terms.proofs.Trees.{length-preorder}
-use Rattle.terms.proofs.Puts.{length-puts}
+use Rattle.terms.proofs.Storing.{stored-length, stored-more}
 use Rattle.replacing.specs.declared.Argument.{Argument}
 use Rattle.replacing.specs.declared.Ends.{Ends}
 use Rattle.replacing.specs.Moving.{moving}
-use Rattle.replacing.specs.Reading.{Area, Wrote}
+use Rattle.replacing.specs.Reading.{Area}
 use Rattle.replacing.specs.Roots.{madeRecord}
-use Rattle.replacing.specs.Arguments.{functionFields, wraps, described, madeRecords, Putting, CanPut, Puts}
+use Rattle.replacing.specs.Arguments.{functionFields, wraps, described, madeRecords, CopyingArgument, CanCopyArgument, CopiesArgument}
 use Rattle.replacing.specs.Copying.{moves, Meant, Copying, CanCopy, Copies}
 use Rattle.replacing.proofs.Indices.{size-raised}
 use Rattle.replacing.proofs.Combined.{moving-wraps}
-use Rattle.replacing.proofs.Staying.{puts-same, reads-stay}
-use Rattle.replacing.proofs.Writing.{wrote-more}
-
--- Form 2 is what a match of kind 13 binds.
-pub opened-described : (types : Table) (g : Argument) (u : Term) → g .form ≡ 2 → g .a ≡ partA types (g .ty) → g .b ≡ partB types (g .ty) → described g u ≡ opened types (g .ty) u
-unfolding described
-opened-described types g u f a b = rw (f, a, b)
+use Rattle.replacing.proofs.Staying.{stored-outside, reads-stay}
 
 -- The records of an argument's term, by its form.
 module _ (n : ℕ) (g : Argument) (u : Term) where
@@ -81,50 +74,48 @@ module _ (g : Argument) where
 
   module _ (rs : List Record) (dst : ℕ) where
     pub both-put : 1 < g .form → (x y : CodeRecord) → recordMeant x ≡ madeRecord 3 (g .ty) (g .a) → recordMeant y ≡ madeRecord 7 (g .b) 0
-        → (rs₁ : List Record) (r : ℕ) → Wrote rs rs₁ dst (recordMeant x ∷ recordMeant y ∷ []) r → Wrote rs rs₁ dst (madeRecords g) r
+        → (rs₁ : List Record) (r : ℕ) → Stored rs rs₁ dst (recordMeant x ∷ recordMeant y ∷ []) r → Stored rs rs₁ dst (madeRecords g) r
     both-put h x y ex ey rs₁ r w = rw (made-both h) (rw (ex, ey) at w)
 
-    pub none-put : g .form ≡ 0 → g .form ≤ 1 → Wrote rs rs dst (madeRecords g) dst
+    pub none-put : g .form ≡ 0 → g .form ≤ 1 → Stored rs rs dst (madeRecords g) dst
     unfolding puts
     none-put e l = rw (made-none l e) (record { records = refl; end = omega arith })
 
     pub quote-put : (g .form ≡ 0 → ⊥) → g .form ≤ 1 → (x : CodeRecord) → recordMeant x ≡ madeRecord 7 (g .ty) 0
-        → (rs₁ : List Record) (r : ℕ) → Wrote rs rs₁ dst (recordMeant x ∷ []) r → Wrote rs rs₁ dst (madeRecords g) r
+        → (rs₁ : List Record) (r : ℕ) → Stored rs rs₁ dst (recordMeant x ∷ []) r → Stored rs rs₁ dst (madeRecords g) r
     quote-put e l x ex rs₁ r w = rw (made-quote l e) (rw ex at w)
 
 -- One law for each thing that the copy of an argument asks.
-pub made-fits : (rs : List Record) (g : Argument) (dst n : ℕ) → CanPut rs g dst n → dst + length (madeRecords g) ≤ length rs
+pub made-fits : (rs : List Record) (g : Argument) (dst n : ℕ) → CanCopyArgument rs g dst n → dst + length (madeRecords g) ≤ length rs
 made-fits rs g dst n h =
     let d = h .can .describes in
     omega (arith, h .can .free .room, ap size (d .is), argument-size n g (d .tree))
 
-module _ (rs rs₁ : List Record) (g : Argument) (dst n p : ℕ) (w : Wrote rs rs₁ dst (madeRecords g) p) where
-  tree-copying : (a : Area) (t : Term) (h : Putting a rs g dst n t) → Copying (moves n (wraps g) (g .a)) (moving n (wraps g) (g .a)) a rs₁ (g .at) p 0 (h .describes .tree)
+module _ (rs rs₁ : List Record) (g : Argument) (dst n p : ℕ) (w : Stored rs rs₁ dst (madeRecords g) p) where
+  tree-copying : (a : Area) (t : Term) (h : CopyingArgument a rs g dst n t) → Copying (moves n (wraps g) (g .a)) (moving n (wraps g) (g .a)) a rs₁ (g .at) p 0 (h .describes .tree)
   unfolding Meant
   tree-copying a t h =
       let s = ap size (h .describes .is) ∙ argument-size n g (h .describes .tree) in
-      let same = puts-same a rs dst _ (madeRecords g) (h .free) (omega arith) in
       record {
         meant = record { is = refl; fits = h .fits };
-        reads = rw (w .records) (reads-stay same (h .describes .reads));
+        reads = reads-stay (stored-outside a w (h .free) (omega arith)) (h .describes .reads);
         free = record {
-          room = omega (arith, h .free .room, w .end, ap length (w .records) ∙ length-puts rs dst (madeRecords g));
+          room = omega (arith, h .free .room, w .end, stored-length w);
           apart = ⊎-map (λ l. omega (arith, w .end)) (λ l. omega (arith, w .end)) (h .free .apart);
         };
       }
 
-  pub tree-asks : CanPut rs g dst n → CanCopy (moves n (wraps g) (g .a)) rs₁ (g .at) p 0
+  pub tree-asks : CanCopyArgument rs g dst n → CanCopy (moves n (wraps g) (g .a)) rs₁ (g .at) p 0
   tree-asks h = record { change = moving n (wraps g) (g .a); area = h .area; tree = h .can .describes .tree; can = tree-copying (h .area) (h .term) (h .can) }
 
-  pub argument-put : (rs₂ : List Record) (q : Ends) → Copies (moves n (wraps g) (g .a)) rs₁ rs₂ (g .at) p 0 q → Puts rs rs₂ g dst n (q .dst)
+  pub argument-put : (rs₂ : List Record) (q : Ends) → Copies (moves n (wraps g) (g .a)) rs₁ rs₂ (g .at) p 0 q → CopiesArgument rs rs₂ g dst n (q .dst)
   argument-put rs₂ q k = record {
     does = λ a t h.
         let u = h .describes .tree in
         let c = k .does (moving n (wraps g) (g .a)) a u (tree-copying a t h) in
         let o : preorder (raised n t) ≡ madeRecords g ++ preorder (changed (moving n (wraps g) (g .a)) 0 u) =
         ap (λ x. preorder (raised n x)) (h .describes .is) ∙ argument-preorder n g u in
-        rw o (wrote-more rs rs₁ rs₂ dst p (q .dst) (madeRecords g) _ w
-        (record { records = c .records; end = c .after-written ∙ ap (λ x. p + x) (sym (length-preorder (changed (moving n (wraps g) (g .a)) 0 u))) }));
+        rw o (stored-more w (c .stored));
   }
 
 pub ruleset arguing = (both-fit, quote-fits, both-put, none-put, quote-put, made-fits, tree-asks, argument-put)

@@ -12,13 +12,13 @@ use Rattle.rules.specs.Format.{Record}
 use Rattle.replacing.specs.declared.Argument.{Argument}
 use Rattle.replacing.specs.declared.Ends.{Ends}
 use Rattle.replacing.specs.Reading.{Area, Reads, Free}
-use Rattle.replacing.specs.Arguments.{Describes, Given, Measures}
+use Rattle.replacing.specs.Arguments.{Describes, DescribesAll, Measures}
 use Rattle.replacing.specs.Counting.{Sizes}
 use Rattle.replacing.specs.Copying.{replaces, Meant, Copying, CanCopy, Copied, Copies}
 
 module _ (a : Area) (rs : List Record) (src dst d : ℕ) (t : Term) (r : Reads a rs src d t) where
   -- Replacing.
-  module _ (m : ℕ) (first second : Argument) (ts : List Term) (g : Given a rs m first second ts) (fits : a .index + a .depth ≤ 65536)
+  module _ (m : ℕ) (first second : Argument) (ts : List Term) (g : DescribesAll a rs m first second ts) (fits : a .index + a .depth ≤ 65536)
       (f : Free a rs dst (size (changed (replacing ts) d t))) where
     replace-copying : Copying (replaces m first second) (replacing ts) a rs src dst d t
     unfolding Meant
@@ -32,7 +32,7 @@ module _ (a : Area) (rs : List Record) (src dst d : ℕ) (t : Term) (r : Reads a
 
 module _ (a : Area) (rs : List Record) (first second : Argument) where
   -- The sizes of the given terms are those that were measured.
-  pub sizes-given : (m k l : ℕ) (ts : List Term) → Given a rs m first second ts → (0 < m → Measures rs first k) → (1 < m → Measures rs second l) → Sizes m k l ts
+  pub sizes-given : (m k l : ℕ) (ts : List Term) → DescribesAll a rs m first second ts → (0 < m → Measures rs first k) → (1 < m → Measures rs second l) → Sizes m k l ts
   sizes-given m k l ts g p q = record { count = g .count; each = λ j z h. each j z h (g .each j z h) }
     where
       each : (j : ℕ) (z : Term) → j < m → Describes a rs (pick (eqb j 0) first second) (getD ts j z) → size (getD ts j z) ≡ pick (eqb j 0) k l

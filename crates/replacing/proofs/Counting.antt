@@ -11,7 +11,7 @@ use mir.Val.{Fits}
 use Rattle.rules.specs.Lists.{pick}
 use Rattle.rules.specs.Kinds.{kindOf}
 use Rattle.rules.specs.Terms.{Term, size}
-use Rattle.rules.specs.Indices.{replacing}
+use Rattle.rules.specs.Indices.{replacing, gaveWay, gives, namesRemoved}
 use Rattle.rules.specs.Format.{Record, noRecord}
 use Rattle.rules.proofs.Laid.{size-some}
 use Rattle.records.specs.View.{recordsIn}
@@ -19,31 +19,32 @@ use Rattle.records.specs.declared.Record.{Record as CodeRecord}
 use Rattle.records.specs.Meant.{recordMeant}
 use Rattle.records.proofs.Records.{records-length}
 use Rattle.terms.proofs.Trees.{at-first, at-head}
+use Rattle.terms.proofs.Children.{sizes}
 use Rattle.replacing.specs.declared.Branching.{Branching}
-use Rattle.replacing.specs.declared.Counted.{Counted}
+use Rattle.replacing.specs.declared.Tally.{Tally}
 use Rattle.replacing.specs.Reading.{Area, Reads}
-use Rattle.replacing.specs.Roots.{Branches, namesRemoved, isVariable, givesWay}
-use Rattle.replacing.specs.Counting.{gives, gaveWay, weight, sizeAfter, rootCount, CanCount, Counts, CanAdd, HasAdded, Adds, RootAdds, RoomFor, OneMore}
-use Rattle.replacing.proofs.Kids.{Kid, kids, depths, sizes, kids-size, AllReads, kids-read}
+use Rattle.replacing.specs.Roots.{Branches, isVariable, givesWay}
+use Rattle.replacing.specs.Counting.{weight, sizeAfter, rootCount, CanTally, Tallies, CanAdd, HasAdded, Adds, RootAdds, RoomFor, OneMore}
+use Rattle.replacing.proofs.Kids.{Kid, kidsUnder, trees, kids-size, depths, AllReads, kids-read}
 use Rattle.replacing.proofs.Chain.{branchDepths, Way, none-ahead, first-ahead, one-was-all, second-ahead, two-were-all, third-ahead, three-were-all}
 use Rattle.replacing.proofs.Traversal.{branch-depths}
 use Rattle.replacing.proofs.Sums.{summedAll, kids-summed, summed-most, gives-most, weight-most, changed-size, replacing-weighs}
 
 -- Of the tree t at the place that `sum` has reached, the children `todo`, with ds binders before them, are ahead; `now` is what was counted up
 -- to them.
-record Remains (rs : List Record) (m first second : ℕ) (a : Area) (sum : Counted) (d : ℕ) (t : Term) (ds : List ℕ) (now : Counted) (todo : List Kid) : Type 0 where
+record Remains (rs : List Record) (m first second : ℕ) (a : Area) (sum : Tally) (d : ℕ) (t : Term) (ds : List ℕ) (now : Tally) (todo : List Kid) : Type 0 where
   ahead : depths todo ≡ ds
   reads : AllReads a rs (now .next) todo
   further : sum .next < now .next
-  passed : now .next + sizes todo ≡ sum .next + size t
+  passed : now .next + sizes (trees todo) ≡ sum .next + size t
   records : now .records + summedAll (weight m first second) 1 todo ≡ sum .records + sizeAfter m first second d t
   replaced : now .replaced + summedAll (gives m) 0 todo ≡ sum .replaced + gaveWay m d t
 
-module _ (rs : List Record) (m first second : ℕ) (a : Area) (sum : Counted) (d : ℕ) (t : Term) where
-  abbrev Here : List ℕ → Counted → List Kid → Type 0
+module _ (rs : List Record) (m first second : ℕ) (a : Area) (sum : Tally) (d : ℕ) (t : Term) where
+  abbrev Here : List ℕ → Tally → List Kid → Type 0
   Here = Remains rs m first second a sum d t
 
-  begun : (q : Branching) (r : Counted) → Reads a rs (sum .next) d t → Branches rs (sum .next) q → RootAdds rs sum d m first second r → Here (branchDepths d q) r (kids d t)
+  begun : (q : Branching) (r : Tally) → Reads a rs (sum .next) d t → Branches rs (sum .next) q → RootAdds rs sum d m first second r → Here (branchDepths d q) r (kidsUnder d t)
   unfolding sizeAfter gaveWay
   begun q r h b k =
       let e = at-head rs (sum .next) t (h .there) in
@@ -57,13 +58,13 @@ module _ (rs : List Record) (m first second : ℕ) (a : Area) (sum : Counted) (d
       }
 
   -- No child is ahead: the tree is counted.
-  ended : (r : Counted) (todo : List Kid) → Here [] r todo → HasAdded sum d m first second t r
+  ended : (r : Tally) (todo : List Kid) → Here [] r todo → HasAdded sum d m first second t r
   unfolding sizes summedAll
   ended r [] h = record { next = omega (arith, h .passed); records = omega (arith, h .records); replaced = omega (arith, h .replaced) }
   ended r (k ∷ ks) h = absurd (omega (arith, ap length (h .ahead)))
 
   -- A child is ahead: it can be counted, and then those after it are ahead.
-  next-asks : (x : ℕ) (ds : List ℕ) (r : Counted) (todo : List Kid) → Here (x ∷ ds) r todo → sum .records + sizeAfter m first second d t < 2 ^ 64 → sum .replaced + gaveWay m d t < 2 ^ 64
+  next-asks : (x : ℕ) (ds : List ℕ) (r : Tally) (todo : List Kid) → Here (x ∷ ds) r todo → sum .records + sizeAfter m first second d t < 2 ^ 64 → sum .replaced + gaveWay m d t < 2 ^ 64
       → CanAdd rs r x m first second
   unfolding AllReads summedAll sizeAfter gaveWay
   next-asks x ds r [] h p q = absurd (omega (arith, ap length (h .ahead)))
@@ -72,7 +73,7 @@ module _ (rs : List Record) (m first second : ℕ) (a : Area) (sum : Counted) (d
       let y : x ≡ k .depth = cc in
       rw y (record { area = a; tree = k .tree; reads = h .reads .0; records-fit = omega (arith, h .records); replaced-fit = omega (arith, h .replaced) })
 
-  next-done : (x : ℕ) (ds : List ℕ) (r : Counted) (todo : List Kid) → Here (x ∷ ds) r todo → (r′ : Counted) → Adds rs r x m first second r′ → (todo′ : List Kid) × Here ds r′ todo′
+  next-done : (x : ℕ) (ds : List ℕ) (r : Tally) (todo : List Kid) → Here (x ∷ ds) r todo → (r′ : Tally) → Adds rs r x m first second r′ → (todo′ : List Kid) × Here ds r′ todo′
   unfolding AllReads summedAll sizes sizeAfter gaveWay
   next-done x ds r [] h r′ g = absurd (omega (arith, ap length (h .ahead)))
   next-done x ds r (k ∷ ks) h r′ g =
@@ -90,38 +91,38 @@ module _ (rs : List Record) (m first second : ℕ) (a : Area) (sum : Counted) (d
         },
       )
 
-module _ (rs : List Record) (sum : Counted) (d m first second : ℕ) where
+module _ (rs : List Record) (sum : Tally) (d m first second : ℕ) where
   -- In the form of the contracts, of every tree: what is ahead of a count that has come to `now`.
-  record Pending (ds : List ℕ) (now : Counted) : Type 0 where
+  record Pending (ds : List ℕ) (now : Tally) : Type 0 where
     is : (a : Area) (t : Term) → Reads a rs (sum .next) d t → (todo : List Kid) × Remains rs m first second a sum d t ds now todo
 
-  pending-ended : (r : Counted) → Pending [] r → Adds rs sum d m first second r
+  pending-ended : (r : Tally) → Pending [] r → Adds rs sum d m first second r
   pending-ended r l = record { does = λ a t h. let (todo, k) = l .is a t h in ended rs m first second a sum d t r todo k }
 
-  pending-more : (x : ℕ) (ds : List ℕ) (r r′ : Counted) → Pending (x ∷ ds) r → Adds rs r x m first second r′ → Pending ds r′
+  pending-more : (x : ℕ) (ds : List ℕ) (r r′ : Tally) → Pending (x ∷ ds) r → Adds rs r x m first second r′ → Pending ds r′
   pending-more x ds r r′ l g = record { is = λ a t h. let (todo, k) = l .is a t h in next-done rs m first second a sum d t x ds r todo k r′ g }
 
   -- The number that falls from call to call is how many records stand from the place reached on.
-  pending-asks : (x : ℕ) (ds : List ℕ) (r : Counted) → Pending (x ∷ ds) r → (n : ℕ) → (length rs - sum .next ≡ n) × CanAdd rs sum d m first second
+  pending-asks : (x : ℕ) (ds : List ℕ) (r : Tally) → Pending (x ∷ ds) r → (n : ℕ) → (length rs - sum .next ≡ n) × CanAdd rs sum d m first second
       → (length rs - r .next < n) × CanAdd rs r x m first second
   pending-asks x ds r l n (e, h) =
       let (todo, k) = l .is (h .area) (h .tree) (h .reads) in
       (omega (arith, k .further, at-first rs (sum .next) (h .tree) (h .reads .there)), next-asks rs m first second (h .area) sum d (h .tree) x ds r todo k (h .records-fit) (h .replaced-fit))
 
-pub place-in : (rs : List Record) (sum : Counted) (d m first second : ℕ) → CanAdd rs sum d m first second → sum .next < length rs
+pub place-in : (rs : List Record) (sum : Tally) (d m first second : ℕ) → CanAdd rs sum d m first second → sum .next < length rs
 place-in rs sum d m first second h = at-first rs (sum .next) (h .tree) (h .reads .there)
 
-deep-fits : (rs : List Record) (sum : Counted) (d m first second : ℕ) → CanAdd rs sum d m first second → Fits w16 d
+deep-fits : (rs : List Record) (sum : Tally) (d m first second : ℕ) → CanAdd rs sum d m first second → Fits w16 d
 deep-fits rs sum d m first second h = omega (arith, h .reads .deep, h .area .few, size-some (h .tree))
 
 -- The children one after another.
-module _ (rs : List Record) (sum : Counted) (d m first second : ℕ) (r₀ : Counted) (q : Branching) (b : Branches rs (sum .next) q) (root : RootAdds rs sum d m first second r₀) where
-  abbrev way : Way Counted d q r₀
+module _ (rs : List Record) (sum : Tally) (d m first second : ℕ) (r₀ : Tally) (q : Branching) (b : Branches rs (sum .next) q) (root : RootAdds rs sum d m first second r₀) where
+  abbrev way : Way Tally d q r₀
   way = record {
     Ahead = Pending rs sum d m first second;
     Done = λ x r r′. Adds rs r x m first second r′;
     more = pending-more rs sum d m first second;
-    begun = record { is = λ a t h. (kids d t, begun rs m first second a sum d t q r₀ h b root) };
+    begun = record { is = λ a t h. (kidsUnder d t, begun rs m first second a sum d t q r₀ h b root) };
   }
 
   pub leaf-added : q .children ≡ 0 → Adds rs sum d m first second r₀
@@ -134,7 +135,7 @@ module _ (rs : List Record) (sum : Counted) (d m first second : ℕ) (r₀ : Cou
     pub first-binds : CanAdd rs sum d m first second → Fits w16 (d + q .first)
     first-binds h = deep-fits rs r₀ (d + q .first) m first second (first-counts (length rs - sum .next) (refl, h) .1)
 
-    module _ (r₁ : Counted) (one : Adds rs r₀ (d + q .first) m first second r₁) where
+    module _ (r₁ : Tally) (one : Adds rs r₀ (d + q .first) m first second r₁) where
       pub one-added : q .children ≡ 1 → Adds rs sum d m first second r₁
       one-added e = pending-ended rs sum d m first second r₁ (one-was-all way some r₁ one e)
 
@@ -145,7 +146,7 @@ module _ (rs : List Record) (sum : Counted) (d m first second : ℕ) (r₀ : Cou
         pub second-binds : CanAdd rs sum d m first second → Fits w16 (d + q .second)
         second-binds h = deep-fits rs r₁ (d + q .second) m first second (second-counts (length rs - sum .next) (refl, h) .1)
 
-        module _ (r₂ : Counted) (two : Adds rs r₁ (d + q .second) m first second r₂) where
+        module _ (r₂ : Tally) (two : Adds rs r₁ (d + q .second) m first second r₂) where
           pub two-added : q .children ≡ 2 → Adds rs sum d m first second r₂
           two-added e = pending-ended rs sum d m first second r₂ (two-were-all way some r₁ one more r₂ two e)
 
@@ -153,7 +154,7 @@ module _ (rs : List Record) (sum : Counted) (d m first second : ℕ) (r₀ : Cou
             pub third-counts : (n : ℕ) → (length rs - sum .next ≡ n) × CanAdd rs sum d m first second → (length rs - r₂ .next < n) × CanAdd rs r₂ d m first second
             third-counts = pending-asks rs sum d m first second _ _ r₂ (third-ahead way some r₁ one more r₂ two third)
 
-            pub three-added : (r₃ : Counted) → Adds rs r₂ d m first second r₃ → Adds rs sum d m first second r₃
+            pub three-added : (r₃ : Tally) → Adds rs r₂ d m first second r₃ → Adds rs sum d m first second r₃
             three-added r₃ g = pending-ended rs sum d m first second r₃ (three-were-all way some r₁ one more r₂ two third r₃ g)
 
 -- The root.
@@ -167,7 +168,7 @@ stays true true p o e = absurd (false≢true (sym e))
 stays true false p o e = refl
 stays false y p o e = refl
 
-module _ (s : List ℕ) (sum : Counted) (d m first second : ℕ) (r : CodeRecord) (got : recordMeant r ≡ getD (recordsIn s) (sum .next) noRecord) (g : Bool) (eg : g ≡ givesWay m d (recordMeant r)) where
+module _ (s : List ℕ) (sum : Tally) (d m first second : ℕ) (r : CodeRecord) (got : recordMeant r ≡ getD (recordsIn s) (sum .next) noRecord) (g : Bool) (eg : g ≡ givesWay m d (recordMeant r)) where
   root-fits : CanAdd (recordsIn s) sum d m first second → length s < 2 ^ 64 → (p q : ℕ) → rootCount (weight m first second) 1 d (recordMeant r) ≡ p → rootCount (gives m) 0 d (recordMeant r) ≡ q → RoomFor sum p q
   unfolding sizeAfter gaveWay
   root-fits h l p q ep eq =
@@ -179,7 +180,7 @@ module _ (s : List ℕ) (sum : Counted) (d m first second : ℕ) (r : CodeRecord
         replaced-fit = omega (arith, h .replaced-fit, kids-summed (gives m) 0 d t, ap (rootCount (gives m) 0 d) e);
       }
 
-  root-adds : (p q : ℕ) → rootCount (weight m first second) 1 d (recordMeant r) ≡ p → rootCount (gives m) 0 d (recordMeant r) ≡ q → (z : Counted) → OneMore sum p q z
+  root-adds : (p q : ℕ) → rootCount (weight m first second) 1 d (recordMeant r) ≡ p → rootCount (gives m) 0 d (recordMeant r) ≡ q → (z : Tally) → OneMore sum p q z
       → RootAdds (recordsIn s) sum d m first second z
   root-adds p q ep eq z o = record {
     next = o .next-is;
@@ -199,7 +200,7 @@ module _ (s : List ℕ) (sum : Counted) (d m first second : ℕ) (r : CodeRecord
     pub given-fits : CanAdd (recordsIn s) sum d m first second → length s < 2 ^ 64 → RoomFor sum n 1
     given-fits h l = root-fits h l n 1 given-size given-one
 
-    pub given-adds : (z : Counted) → OneMore sum n 1 z → RootAdds (recordsIn s) sum d m first second z
+    pub given-adds : (z : Tally) → OneMore sum n 1 z → RootAdds (recordsIn s) sum d m first second z
     given-adds = root-adds n 1 given-size given-one
 
   module _ (f : g ≡ false) where
@@ -214,14 +215,14 @@ module _ (s : List ℕ) (sum : Counted) (d m first second : ℕ) (r : CodeRecord
     pub kept-fits : CanAdd (recordsIn s) sum d m first second → length s < 2 ^ 64 → RoomFor sum 1 0
     kept-fits h l = root-fits h l 1 0 kept-size kept-none
 
-    pub kept-adds : (z : Counted) → OneMore sum 1 0 z → RootAdds (recordsIn s) sum d m first second z
+    pub kept-adds : (z : Tally) → OneMore sum 1 0 z → RootAdds (recordsIn s) sum d m first second z
     kept-adds = root-adds 1 0 kept-size kept-none
 
 -- The whole count.
-abbrev from : ℕ → Counted
+abbrev from : ℕ → Tally
 from src = record { next = src; records = 0; replaced = 0 }
 
-pub count-asks : (rs : List Record) (src d m first second : ℕ) → CanCount rs src d first second → CanAdd rs (from src) d m first second
+pub count-asks : (rs : List Record) (src d m first second : ℕ) → CanTally rs src d first second → CanAdd rs (from src) d m first second
 unfolding sizeAfter gaveWay
 count-asks rs src d m first second h = let t = h .tree in record {
   area = h .area;
@@ -232,7 +233,7 @@ count-asks rs src d m first second h = let t = h .tree in record {
   replaced-fit = omega (arith, h .reads .deep, h .area .few, summed-most (gives m) 0 65535 (omega arith) (gives-most m) d t);
 }
 
-pub counted : (rs : List Record) (src d m first second : ℕ) (r : Counted) → Adds rs (from src) d m first second r → Counts rs src d m first second r
+pub counted : (rs : List Record) (src d m first second : ℕ) (r : Tally) → Adds rs (from src) d m first second r → Tallies rs src d m first second r
 unfolding sizeAfter
 counted rs src d m first second r g = record {
   does = λ a t h.

@@ -7,7 +7,7 @@ use mathlib.Core.Path.{_≡_, refl, ap, ap₂}
 use mathlib.Core.List.{[]}
 use lib.ListN.{length}
 use borrow.Author.Tests.{lt-ltb, le-ltb}
-use Rattle.rules.specs.Kinds.{number, variable, matchVariable, matchShape, Kind, leaf₀, unary₁, binary₂, ternary₃}
+use Rattle.rules.specs.Kinds.{number, variable, matchVariable, matchShape, Kind, leaf₀, unary₁, binary₂, ternary₃, match}
 use Rattle.rules.specs.Terms.{Fields, Term, leaf, unary, binary, ternary, size}
 use Rattle.rules.specs.Binders.{binds₁, binds₃}
 use Rattle.rules.specs.Indices.{changed, raising, replacing, loweredIndex, replaced}
@@ -37,8 +37,8 @@ none-replaced d (leaf number f) = refl
 none-replaced d (leaf variable f) = variable-stays d f
 none-replaced d (unary k f t) = ap (unary k f) (none-replaced (length (binds₁ k f) + d) t)
 none-replaced d (binary k f t u) = ap₂ (binary k f) (none-replaced d t) (none-replaced d u)
-none-replaced d (ternary matchVariable f t s e) = rw (none-replaced d t, none-replaced (0 + d) s, none-replaced d e, lowered-none d (f .a))
-none-replaced d (ternary (matchShape k) f t s e) = rw (none-replaced d t, none-replaced (length (binds₃ (matchShape k) f) + d) s, none-replaced d e)
+none-replaced d (ternary (match matchVariable) f t s e) = rw (none-replaced d t, none-replaced (0 + d) s, none-replaced d e, lowered-none d (f .a))
+none-replaced d (ternary (match (matchShape k)) f t s e) = rw (none-replaced d t, none-replaced (length (binds₃ (match (matchShape k)) f) + d) s, none-replaced d e)
 
 pub replaced-none : (t : Term) → replaced [] t ≡ t
 unfolding replaced
@@ -59,8 +59,8 @@ index-more b c (leaf₀ number) f l h = tt
 index-more b c (leaf₀ variable) f l h = omega arith
 index-more b c (unary₁ k) f l h = tt
 index-more b c (binary₂ k) f l h = tt
-index-more b c (ternary₃ matchVariable) f l h = omega arith
-index-more b c (ternary₃ (matchShape k)) f l h = tt
+index-more b c (ternary₃ (match matchVariable)) f l h = omega arith
+index-more b c (ternary₃ (match (matchShape k))) f l h = tt
 
 pub low-more : (b c : ℕ) (t : Term) → b ≤ c → Low b t → Low c t
 unfolding Low
@@ -74,8 +74,8 @@ bound-low Γ (leaf₀ number) f h = tt
 bound-low Γ (leaf₀ variable) f h = h .0
 bound-low Γ (unary₁ k) f h = tt
 bound-low Γ (binary₂ k) f h = tt
-bound-low Γ (ternary₃ matchVariable) f h = h .0
-bound-low Γ (ternary₃ (matchShape k)) f h = tt
+bound-low Γ (ternary₃ (match matchVariable)) f h = h .0
+bound-low Γ (ternary₃ (match (matchShape k))) f h = tt
 
 pub typed-low : (types : Table) (Γ : Env) (l : ℕ) (t : Term) → Typed types Γ l t → Low (length Γ + 2 * size t) t
 unfolding Typed Low size

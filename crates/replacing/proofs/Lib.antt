@@ -3,7 +3,6 @@ pub mod Roots
 pub mod Kids
 pub mod Chain
 pub mod Staying
-pub mod Writing
 pub mod Fronts
 pub mod Traversal
 pub mod Copies

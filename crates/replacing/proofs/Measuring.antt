@@ -12,14 +12,14 @@ use mir.Val.{Fits}
 use Rattle.rules.specs.Lists.{pick}
 use Rattle.rules.specs.Terms.{Term, size}
 use Rattle.rules.specs.Format.{Record}
-use Rattle.rules.specs.Steps.{quoted}
+use Rattle.rules.specs.Matching.{quoted}
 use Rattle.terms.specs.Preorder.{HasTree, Skips}
 use Rattle.replacing.specs.declared.Argument.{Argument}
-use Rattle.replacing.specs.declared.Counted.{Counted}
+use Rattle.replacing.specs.declared.Tally.{Tally}
 use Rattle.replacing.specs.Moving.{moving}
 use Rattle.replacing.specs.Reading.{Area}
 use Rattle.replacing.specs.Arguments.{wraps, described, madeRecords, madeCount, wrappedCount, Describes, HasArgument, Measures}
-use Rattle.replacing.specs.Counting.{weight, sizeAfter, Counts}
+use Rattle.replacing.specs.Counting.{weight, sizeAfter, Tallies}
 use Rattle.replacing.proofs.Arguments.{argument-size}
 use Rattle.replacing.proofs.Sums.{summed-most, weight-most, changed-size, moving-weighs}
 
@@ -34,7 +34,7 @@ made-count g = by (wraps g) (eqb (g .form) 0) _ _ _
 
 module _ (rs : List Record) (g : Argument) where
   -- Uses are wrapped.
-  module _ (l : 1 < g .form) (r : Counted) (c : Counts rs (g .at) 0 1 2 2 r) where
+  module _ (l : 1 < g .form) (r : Tally) (c : Tallies rs (g .at) 0 1 2 2 r) where
     two-made : madeCount (g .form) ≡ 2
     two-made = rw (lt-ltb 1 (g .form) l) refl
 

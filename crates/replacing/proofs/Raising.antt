@@ -10,16 +10,15 @@ use lib.Dec.{ltb, eqb}
 use borrow.Author.Tests.{lt-ltb, le-ltb, eq-eqb, ne-eqb}
 use Rattle.rules.specs.Kinds.{variable}
 use Rattle.rules.specs.Terms.{Term, leaf, fieldsOf}
-use Rattle.rules.specs.Indices.{raisedIndex, changed}
+use Rattle.rules.specs.Indices.{raisedIndex, changed, namesRemoved}
 use Rattle.rules.specs.Format.{Record, noRecord}
 use Rattle.rules.proofs.General.{picked}
 use Rattle.records.specs.declared.Record.{Record as CodeRecord}
 use Rattle.records.specs.Meant.{recordMeant}
-use Rattle.terms.specs.Preorder.{head, preorder, At}
+use Rattle.terms.specs.Preorder.{head, preorder, At, Stored}
 use Rattle.terms.proofs.Trees.{at-head}
 use Rattle.replacing.specs.Moving.{keptBinders, moving}
-use Rattle.replacing.specs.Reading.{Wrote}
-use Rattle.replacing.specs.Roots.{namesRemoved, isWrapped, typedAs, madeRecord, moved, IndexFits, front}
+use Rattle.replacing.specs.Roots.{isWrapped, typedAs, madeRecord, moved, IndexFits, front}
 use Rattle.replacing.specs.Copying.{Job, moves, Meant, CanCopy, RootCopies}
 use Rattle.replacing.proofs.Fronts.{Steady, front-moved, front-size, low-index, gives-way-head, where-given}
 use Rattle.replacing.proofs.Copies.{depth-fits}
@@ -77,7 +76,7 @@ module _ (n : ℕ) (wrap : Bool) (code : ℕ) (rs : List Record) (src dst d : �
         omega (arith, h .can .free .room, front-size (h .change) d t, ap (λ c. length (front c d t)) (h .can .meant .is), ap length e)
 
     pub use-copied : q ≡ true → (x y : CodeRecord) → recordMeant x ≡ madeRecord 8 (r .ty) 0 → recordMeant y ≡ typedAs (recordMeant r) code
-        → (rs₁ : List Record) (end : ℕ) → Wrote rs rs₁ dst (recordMeant x ∷ recordMeant y ∷ []) end → RootCopies (moves n wrap code) rs rs₁ src dst d end
+        → (rs₁ : List Record) (end : ℕ) → Stored rs rs₁ dst (recordMeant x ∷ recordMeant y ∷ []) end → RootCopies (moves n wrap code) rs rs₁ src dst d end
     unfolding Meant
     use-copied t x y ex ey rs₁ end o = record {
       does = λ c a u h.
@@ -89,7 +88,7 @@ module _ (n : ℕ) (wrap : Bool) (code : ℕ) (rs : List Record) (src dst d : �
     }
 
     pub root-raised : q ≡ false → (k : ℕ) → k ≡ keptBinders wrap d → (x : CodeRecord) → recordMeant x ≡ moved (raisedIndex n k) (recordMeant r)
-        → (rs₁ : List Record) (end : ℕ) → Wrote rs rs₁ dst (recordMeant x ∷ []) end → RootCopies (moves n wrap code) rs rs₁ src dst d end
+        → (rs₁ : List Record) (end : ℕ) → Stored rs rs₁ dst (recordMeant x ∷ []) end → RootCopies (moves n wrap code) rs rs₁ src dst d end
     unfolding Meant
     root-raised f k ek x ex rs₁ end o = record {
       does = λ c a u h.

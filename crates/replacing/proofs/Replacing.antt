@@ -12,16 +12,16 @@ use borrow.Author.Tests.{lt-ltb, le-ltb}
 use Rattle.rules.specs.Lists.{pick}
 use Rattle.rules.specs.Kinds.{variable}
 use Rattle.rules.specs.Terms.{Fields, Term, leaf, fieldsOf, size}
-use Rattle.rules.specs.Indices.{Change, changed, raised, replacing, replacement, loweredIndex, withIndex}
+use Rattle.rules.specs.Indices.{Change, changed, raised, replacing, replacement, loweredIndex, withIndex, namesRemoved}
 use Rattle.rules.specs.Format.{Record, noRecord}
 use Rattle.records.specs.declared.Record.{Record as CodeRecord}
 use Rattle.records.specs.Meant.{recordMeant}
-use Rattle.terms.specs.Preorder.{head, preorder, At}
+use Rattle.terms.specs.Preorder.{head, preorder, At, Stored}
 use Rattle.terms.proofs.Trees.{at-head}
 use Rattle.replacing.specs.declared.Argument.{Argument}
-use Rattle.replacing.specs.Reading.{Area, Wrote}
-use Rattle.replacing.specs.Roots.{namesRemoved, givesWay, moved, front}
-use Rattle.replacing.specs.Arguments.{Putting, CanPut, Puts}
+use Rattle.replacing.specs.Reading.{Area}
+use Rattle.replacing.specs.Roots.{givesWay, moved, front}
+use Rattle.replacing.specs.Arguments.{CopyingArgument, CanCopyArgument, CopiesArgument}
 use Rattle.replacing.specs.Copying.{replaces, Replaces, Meant, Copying, CanCopy, RootCopies}
 use Rattle.replacing.proofs.Fronts.{Steady, front-moved, gives-way-head, where-given}
 use Rattle.replacing.proofs.Indices.{size-raised}
@@ -63,7 +63,7 @@ module _ (ts : List Term) (m d : ℕ) (count : length ts ≡ m) where
 -- What is put in its place, and that it can be.
 module _ (m : ℕ) (first second : Argument) (c : Change) (a : Area) (rs : List Record) (src dst d : ℕ) (x : Argument) (k : Replaces m first second c a rs) where
   abbrev Put : Term → Type 0
-  Put t = x ≡ pick (eqb (fieldsOf t .a) d) first second → Copying (replaces m first second) c a rs src dst d t → (u : Term) × (front c d t ≡ preorder (raised d u)) × Putting a rs x dst d u
+  Put t = x ≡ pick (eqb (fieldsOf t .a) d) first second → Copying (replaces m first second) c a rs src dst d t → (u : Term) × (front c d t ≡ preorder (raised d u)) × CopyingArgument a rs x dst d u
 
   variable-put : (f : Fields) → namesRemoved m d (f .a) ≡ true → Put (leaf variable f)
   unfolding front changed size raised
@@ -91,20 +91,20 @@ module _ (m : ℕ) (first second : Argument) (rs : List Record) (src dst d : ℕ
   given-head t h = ap (givesWay m d) (sym (got ∙ at-head rs src t h)) ∙ sym eg
 
   module _ (y : g ≡ true) (x : Argument) (ex : x ≡ pick (eqb (r .a) d) first second) where
-    put-here : (c : Change) (a : Area) (t : Term) → Copying (replaces m first second) c a rs src dst d t → (u : Term) × (front c d t ≡ preorder (raised d u)) × Putting a rs x dst d u
+    put-here : (c : Change) (a : Area) (t : Term) → Copying (replaces m first second) c a rs src dst d t → (u : Term) × (front c d t ≡ preorder (raised d u)) × CopyingArgument a rs x dst d u
     unfolding Meant
     put-here c a t h =
         let e = got ∙ at-head rs src t (h .reads .there) in
         putting m first second c a rs src dst d x (h .meant) t (given-head t (h .reads .there) ∙ y) (ex ∙ ap (λ (v : Record). pick (eqb (v .fields .a) d) first second) e) h
 
-    pub argument-asks : CanCopy (replaces m first second) rs src dst d → CanPut rs x dst d
+    pub argument-asks : CanCopy (replaces m first second) rs src dst d → CanCopyArgument rs x dst d
     argument-asks h = let (u, _, p) = put-here (h .change) (h .area) (h .tree) (h .can) in record { area = h .area; term = u; can = p }
 
-    pub argument-copied : (rs₁ : List Record) (end : ℕ) → Puts rs rs₁ x dst d end → RootCopies (replaces m first second) rs rs₁ src dst d end
+    pub argument-copied : (rs₁ : List Record) (end : ℕ) → CopiesArgument rs rs₁ x dst d end → RootCopies (replaces m first second) rs rs₁ src dst d end
     argument-copied rs₁ end p = record { does = λ c a t h. let (u, e, k) = put-here c a t h in rw e (p .does a u k) }
 
   pub root-lowered : g ≡ false → (x : CodeRecord) → recordMeant x ≡ moved (loweredIndex m d) (recordMeant r)
-      → (rs₁ : List Record) (end : ℕ) → Wrote rs rs₁ dst (recordMeant x ∷ []) end → RootCopies (replaces m first second) rs rs₁ src dst d end
+      → (rs₁ : List Record) (end : ℕ) → Stored rs rs₁ dst (recordMeant x ∷ []) end → RootCopies (replaces m first second) rs rs₁ src dst d end
   unfolding Meant
   root-lowered f x ex rs₁ end o = record {
     does = λ c a t h.

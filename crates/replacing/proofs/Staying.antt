@@ -8,7 +8,7 @@ use lib.ListN.{length, getD}
 use Rattle.rules.specs.Terms.{Term}
 use Rattle.rules.specs.Indices.{Change}
 use Rattle.rules.specs.Format.{Record, noRecord}
-use Rattle.terms.specs.Preorder.{puts}
+use Rattle.terms.specs.Preorder.{Stored}
 use Rattle.terms.proofs.Trees.{frame}
 use Rattle.terms.proofs.Puts.{length-puts, puts-other}
 use Rattle.replacing.specs.declared.Argument.{Argument}
@@ -21,11 +21,11 @@ pub record Same (a : Area) (rs rs′ : List Record) : Type 0 where
   pub long : length rs′ ≡ length rs
   pub each : (i : ℕ) → a .lo ≤ i → i < a .hi → getD rs′ i noRecord ≡ getD rs i noRecord
 
-pub puts-same : (a : Area) (rs : List Record) (dst n : ℕ) (vs : List Record) → Free a rs dst n → length vs ≤ n → Same a rs (puts rs dst vs)
-puts-same a rs dst n vs f h = record {
+pub stored-outside : {rs rs′ : List Record} {dst r n : ℕ} {vs : List Record} (a : Area) → Stored rs rs′ dst vs r → Free a rs dst n → length vs ≤ n → Same a rs rs′
+stored-outside {rs} {rs′} {dst} {r} {n} {vs} a s f h = rw (s .records) (record {
   long = length-puts rs dst vs;
   each = λ i l u. puts-other rs dst vs i (⊎-elim (λ x. inl (omega arith)) (λ x. inr (omega arith)) (f .apart));
-}
+})
 
 module _ {a : Area} {rs rs′ : List Record} (s : Same a rs rs′) where
   pub reads-stay : {i d : ℕ} {t : Term} → Reads a rs i d t → Reads a rs′ i d t

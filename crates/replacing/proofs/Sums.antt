@@ -13,17 +13,17 @@ use Rattle.rules.specs.Lists.{pick}
 use Rattle.rules.specs.Kinds.{number, variable}
 use Rattle.rules.specs.Terms.{Fields, Term, leaf, unary, binary, ternary, rootKind, fieldsOf, size}
 use Rattle.rules.specs.Binders.{binds₁, binds₃}
-use Rattle.rules.specs.Indices.{Change, changed, raised, replacing}
+use Rattle.rules.specs.Indices.{Change, changed, raised, replacing, gives, namesRemoved, summed}
 use Rattle.rules.proofs.General.{picked}
 use Rattle.rules.proofs.KindTable.{kind-back}
 use Rattle.terms.specs.Preorder.{head}
 use Rattle.replacing.specs.Moving.{moving}
-use Rattle.replacing.specs.Roots.{namesRemoved, isVariable}
+use Rattle.replacing.specs.Roots.{isVariable}
 use Rattle.replacing.specs.Arguments.{wrappedCount}
-use Rattle.replacing.specs.Counting.{summed, gives, weight, rootCount, Sizes}
+use Rattle.replacing.specs.Counting.{weight, rootCount, Sizes}
 use Rattle.replacing.proofs.Indices.{size-raised}
 use Rattle.replacing.proofs.Raising.{names-one}
-use Rattle.replacing.proofs.Kids.{Kid, kids}
+use Rattle.replacing.proofs.Kids.{Kid, kidsUnder}
 
 unfoldable pub summedAll : (ℕ → ℕ → ℕ) → ℕ → List Kid → ℕ
 summedAll v o [] = 0
@@ -34,8 +34,8 @@ module _ (v : ℕ → ℕ → ℕ) (o : ℕ) where
   unfolding rootCount
   root-count d t = rw (kind-back (rootKind t))
 
-  pub kids-summed : (d : ℕ) (t : Term) → summed v o d t ≡ rootCount v o d (head t) + summedAll v o (kids d t)
-  unfolding summed kids summedAll
+  pub kids-summed : (d : ℕ) (t : Term) → summed v o d t ≡ rootCount v o d (head t) + summedAll v o (kidsUnder d t)
+  unfolding summed kidsUnder summedAll
   kids-summed d (leaf number f) = omega (arith, root-count d (leaf number f))
   kids-summed d (leaf variable f) = omega (arith, root-count d (leaf variable f))
   kids-summed d (unary k f t) = omega (arith, root-count d (unary k f t))

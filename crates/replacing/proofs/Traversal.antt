@@ -11,20 +11,21 @@ use Rattle.rules.specs.Binders.{bindersFirst, bindersSecond}
 use Rattle.rules.specs.Indices.{Change, changed}
 use Rattle.rules.specs.Format.{Record, noRecord}
 use Rattle.rules.proofs.KindTable.{kind-back}
-use Rattle.terms.specs.Preorder.{preorder, puts}
+use Rattle.terms.specs.Preorder.{preorder, Stored}
 use Rattle.terms.proofs.Trees.{at-first, at-head, length-preorder}
-use Rattle.terms.proofs.Puts.{length-puts, puts-append}
+use Rattle.terms.proofs.Children.{sizes, preorders}
+use Rattle.terms.proofs.Storing.{stored-length, stored-more}
 use Rattle.replacing.specs.declared.Branching.{Branching}
 use Rattle.replacing.specs.declared.Ends.{Ends}
-use Rattle.replacing.specs.Reading.{Area, Reads, Wrote}
+use Rattle.replacing.specs.Reading.{Area, Reads}
 use Rattle.replacing.specs.Roots.{Branches, front}
 use Rattle.replacing.specs.Copying.{Job, Copying, CanCopy, Copied, Copies, RootCopies}
-use Rattle.replacing.proofs.Kids.{Kid, kids, depths, kids-depths, sizes, kids-size, preorders, kids-preorder, AllReads, kids-read}
+use Rattle.replacing.proofs.Kids.{Kid, kidsUnder, trees, kids-size, depths, kids-depths, changedAll, kids-preorder, AllReads, kids-read}
 use Rattle.replacing.proofs.Chain.{branchDepths}
-use Rattle.replacing.proofs.Staying.{Same, puts-same, reads-stay, meant-stays}
+use Rattle.replacing.proofs.Staying.{Same, stored-outside, reads-stay, meant-stays}
 
 -- The binders before each child, by what is known of the root.
-pub branch-depths : (rs : List Record) (i d : ℕ) (t : Term) (q : Branching) → getD rs i noRecord .kind ≡ kindNumber (rootKind t) → Branches rs i q → depths (kids d t) ≡ branchDepths d q
+pub branch-depths : (rs : List Record) (i d : ℕ) (t : Term) (q : Branching) → getD rs i noRecord .kind ≡ kindNumber (rootKind t) → Branches rs i q → depths (kidsUnder d t) ≡ branchDepths d q
 branch-depths rs i d t q h b =
     let e : kindOf (getD rs i noRecord .kind) ≡ rootKind t = ap kindOf h ∙ kind-back (rootKind t) in
     kids-depths d t ∙ (rw (b .children ∙ ap childCount e, b .first ∙ ap bindersFirst e, b .second ∙ ap bindersSecond e))
@@ -32,10 +33,9 @@ branch-depths rs i d t q h b =
 -- rs₁ is rs with `done` written from dst on, and the children `todo`, with ds binders before them, are ahead: it goes on with s and p.
 pub record Leaves (c : Change) (a : Area) (rs rs₁ : List Record) (src dst d : ℕ) (t : Term) (ds : List ℕ) (s p : ℕ) (done : List Record) (todo : List Kid) : Type 0 where
   pub ahead : depths todo ≡ ds
-  pub wrote : rs₁ ≡ puts rs dst done
-  pub reached : p ≡ dst + length done
-  pub whole : preorder (changed c d t) ≡ done ++ preorders c todo
-  pub passed : s + sizes todo ≡ src + size t
+  pub stored : Stored rs rs₁ dst done p
+  pub whole : preorder (changed c d t) ≡ done ++ preorders (changedAll c todo)
+  pub passed : s + sizes (trees todo) ≡ src + size t
   pub further : src < s
   pub reads : AllReads a rs s todo
 
@@ -43,12 +43,11 @@ module _ (c : Change) (a : Area) (rs : List Record) (src dst d : ℕ) (t : Term)
   abbrev Here : List Record → List ℕ → ℕ → ℕ → List Record → List Kid → Type 0
   Here rs₁ = Leaves c a rs rs₁ src dst d t
 
-  begun : (rs₁ : List Record) (q : Branching) (p : ℕ) → Reads a rs src d t → Branches rs src q → Wrote rs rs₁ dst (front c d t) p
-      → Here rs₁ (branchDepths d q) (src + 1) p (front c d t) (kids d t)
+  begun : (rs₁ : List Record) (q : Branching) (p : ℕ) → Reads a rs src d t → Branches rs src q → Stored rs rs₁ dst (front c d t) p
+      → Here rs₁ (branchDepths d q) (src + 1) p (front c d t) (kidsUnder d t)
   begun rs₁ q p r b h = record {
     ahead = branch-depths rs src d t q (ap (λ (x : Record). x .kind) (at-head rs src t (r .there))) b;
-    wrote = h .records;
-    reached = h .end;
+    stored = h;
     whole = kids-preorder c d t;
     passed = omega (arith, kids-size d t);
     further = omega arith;
@@ -56,16 +55,15 @@ module _ (c : Change) (a : Area) (rs : List Record) (src dst d : ℕ) (t : Term)
   }
 
   -- The size of the whole, by its parts.
-  long : (done : List Record) (todo : List Kid) → preorder (changed c d t) ≡ done ++ preorders c todo → size (changed c d t) ≡ length done + length (preorders c todo)
-  long done todo w = sym (length-preorder (changed c d t)) ∙ ap length w ∙ length-append done (preorders c todo)
+  long : (done : List Record) (todo : List Kid) → preorder (changed c d t) ≡ done ++ preorders (changedAll c todo) → size (changed c d t) ≡ length done + length (preorders (changedAll c todo))
+  long done todo w = sym (length-preorder (changed c d t)) ∙ ap length w ∙ length-append done (preorders (changedAll c todo))
 
   -- No child is ahead: the tree is copied.
   ended : (rs₁ : List Record) (s p : ℕ) (done : List Record) (todo : List Kid) → Here rs₁ [] s p done todo → Copied c rs rs₁ src dst d t (record { src = s; dst = p })
   unfolding preorders sizes
   ended rs₁ s p done [] l = record {
-    records = l .wrote ∙ ap (puts rs dst) (sym (l .whole ∙ append-nil done));
-    after-read = omega (arith, l .passed);
-    after-written = omega (arith, l .reached, long done [] (l .whole));
+    read = omega (arith, l .passed);
+    stored = rw (l .whole ∙ append-nil done) (l .stored);
   }
   ended rs₁ s p done (k ∷ ks) l = absurd (omega (arith, ap length (l .ahead)))
 
@@ -78,12 +76,12 @@ module _ (c : Change) (a : Area) (rs : List Record) (src dst d : ℕ) (t : Term)
       out-long : length out ≡ size (changed c (k .depth) (k .tree))
       out-long = length-preorder (changed c (k .depth) (k .tree))
 
-      longer : size (changed c d t) ≡ length done + (size (changed c (k .depth) (k .tree)) + length (preorders c ks))
+      longer : size (changed c d t) ≡ length done + (size (changed c (k .depth) (k .tree)) + length (preorders (changedAll c ks)))
       unfolding preorders
-      longer = long done (k ∷ ks) (l .whole) ∙ ap (λ n. length done + n) (length-append out (preorders c ks) ∙ ap (λ n. n + length (preorders c ks)) out-long)
+      longer = long done (k ∷ ks) (l .whole) ∙ ap (λ n. length done + n) (length-append out (preorders (changedAll c ks)) ∙ ap (λ n. n + length (preorders (changedAll c ks))) out-long)
 
       same : Same a rs rs₁
-      same = rw (l .wrote) (puts-same a rs dst _ done (h .free) (omega (arith, longer)))
+      same = stored-outside a (l .stored) (h .free) (omega (arith, longer))
 
       kid-copying : Copying j c a rs₁ s p (k .depth) (k .tree)
       unfolding AllReads
@@ -91,8 +89,8 @@ module _ (c : Change) (a : Area) (rs : List Record) (src dst d : ℕ) (t : Term)
         meant = meant-stays same j c (h .meant);
         reads = reads-stay same (l .reads .0);
         free = record {
-          room = omega (arith, longer, l .reached, h .free .room, same .long);
-          apart = ⊎-map (λ e. omega (arith, l .reached)) (λ e. omega (arith, longer, l .reached)) (h .free .apart);
+          room = omega (arith, longer, l .stored .end, h .free .room, same .long);
+          apart = ⊎-map (λ e. omega (arith, l .stored .end)) (λ e. omega (arith, longer, l .stored .end)) (h .free .apart);
         };
       }
 
@@ -102,12 +100,11 @@ module _ (c : Change) (a : Area) (rs : List Record) (src dst d : ℕ) (t : Term)
           let b = l .ahead in
           record {
             ahead = cc;
-            wrote = g .records ∙ (rw (l .wrote, l .reached, puts-append rs dst done out));
-            reached = omega (arith, g .after-written, l .reached, length-append done out, out-long);
-            whole = l .whole ∙ sym (append-assoc done out (preorders c ks));
-            passed = omega (arith, g .after-read, l .passed);
-            further = omega (arith, g .after-read, l .further);
-            reads = rw (g .after-read) (l .reads .1);
+            stored = stored-more (l .stored) (g .stored);
+            whole = l .whole ∙ sym (append-assoc done out (preorders (changedAll c ks)));
+            passed = omega (arith, g .read, l .passed);
+            further = omega (arith, g .read, l .further);
+            reads = rw (g .read) (l .reads .1);
           }
 
     next-asks : (todo : List Kid) → Here rs₁ (x ∷ ds) s p done todo → (u : Term) × Copying j c a rs₁ s p x u
@@ -132,32 +129,32 @@ pub record Far : Type 0 where
 
 module _ (j : Job) (rs : List Record) (src dst d : ℕ) where
   -- In the form of the contracts, of every change and every tree: what is ahead of a copy that has come so far, and the copy of what is next.
-  pub record Left (ds : List ℕ) (s : Far) : Type 0 where
+  pub record CopyAhead (ds : List ℕ) (s : Far) : Type 0 where
     pub is : (c : Change) (a : Area) (t : Term) → Copying j c a rs src dst d t
         → (done : List Record) × (todo : List Kid) × Leaves c a rs (s .records) src dst d t ds (s .ends .src) (s .ends .dst) done todo
 
-  abbrev pub Next : ℕ → Far → Far → Type 0
-  Next x s s′ = Copies j (s .records) (s′ .records) (s .ends .src) (s .ends .dst) x (s′ .ends)
+  abbrev pub CopiesNext : ℕ → Far → Far → Type 0
+  CopiesNext x s s′ = Copies j (s .records) (s′ .records) (s .ends .src) (s .ends .dst) x (s′ .ends)
 
-  pub left-begun : (rs₁ : List Record) (q : Branching) (p : ℕ) → Branches rs src q → RootCopies j rs rs₁ src dst d p
-      → Left (branchDepths d q) (record { records = rs₁; ends = record { src = src + 1; dst = p } })
-  left-begun rs₁ q p b h = record { is = λ c a t k. (front c d t, kids d t, begun c a rs src dst d t rs₁ q p (k .reads) b (h .does c a t k)) }
+  pub ahead-begun : (rs₁ : List Record) (q : Branching) (p : ℕ) → Branches rs src q → RootCopies j rs rs₁ src dst d p
+      → CopyAhead (branchDepths d q) (record { records = rs₁; ends = record { src = src + 1; dst = p } })
+  ahead-begun rs₁ q p b h = record { is = λ c a t k. (front c d t, kidsUnder d t, begun c a rs src dst d t rs₁ q p (k .reads) b (h .does c a t k)) }
 
-  pub left-ended : (s : Far) → Left [] s → Copies j rs (s .records) src dst d (s .ends)
-  left-ended s l = record { does = λ c a t k. let (done, todo, y) = l .is c a t k in ended c a rs src dst d t (s .records) (s .ends .src) (s .ends .dst) done todo y }
+  pub ahead-ended : (s : Far) → CopyAhead [] s → Copies j rs (s .records) src dst d (s .ends)
+  ahead-ended s l = record { does = λ c a t k. let (done, todo, y) = l .is c a t k in ended c a rs src dst d t (s .records) (s .ends .src) (s .ends .dst) done todo y }
 
   -- The number that falls from call to call is how many records stand from src on.
-  pub left-asks : (x : ℕ) (ds : List ℕ) (s : Far) → Left (x ∷ ds) s → (m : ℕ) → (length rs - src ≡ m) × CanCopy j rs src dst d
+  pub ahead-asks : (x : ℕ) (ds : List ℕ) (s : Far) → CopyAhead (x ∷ ds) s → (m : ℕ) → (length rs - src ≡ m) × CanCopy j rs src dst d
       → (length (s .records) - s .ends .src < m) × CanCopy j (s .records) (s .ends .src) (s .ends .dst) x
-  left-asks x ds s l m (e, h) =
+  ahead-asks x ds s l m (e, h) =
       let (done, todo, y) = l .is (h .change) (h .area) (h .tree) (h .can) in
       let (u, k) = next-asks (h .change) (h .area) rs src dst d (h .tree) j (h .can) (s .records) x ds (s .ends .src) (s .ends .dst) done todo y in (
-        omega (arith, y .further, at-first rs src (h .tree) (h .can .reads .there), ap length (y .wrote) ∙ length-puts rs dst done),
+        omega (arith, y .further, at-first rs src (h .tree) (h .can .reads .there), stored-length (y .stored)),
         record { change = h .change; area = h .area; tree = u; can = k },
       )
 
-  pub left-more : (x : ℕ) (ds : List ℕ) (s s′ : Far) → Left (x ∷ ds) s → Next x s s′ → Left ds s′
-  left-more x ds s s′ l g = record {
+  pub ahead-more : (x : ℕ) (ds : List ℕ) (s s′ : Far) → CopyAhead (x ∷ ds) s → CopiesNext x s s′ → CopyAhead ds s′
+  ahead-more x ds s s′ l g = record {
     is = λ c a t k.
         let (done, todo, y) = l .is c a t k in
         next-done c a rs src dst d t j k (s .records) x ds (s .ends .src) (s .ends .dst) done todo y (s′ .records) (s′ .ends) g;

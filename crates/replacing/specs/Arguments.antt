@@ -9,12 +9,12 @@ use Rattle.rules.specs.Lists.{pick}
 use Rattle.rules.specs.Kinds.{function, quote, unary₁}
 use Rattle.rules.specs.Terms.{Fields, Term, unary, onlyType, size}
 use Rattle.rules.specs.Indices.{raised, wrapped}
-use Rattle.rules.specs.Steps.{quoted}
+use Rattle.rules.specs.Matching.{quoted}
 use Rattle.rules.specs.Format.{Record}
 use Rattle.rules.specs.Links.{linked}
-use Rattle.terms.specs.Preorder.{preorder}
+use Rattle.terms.specs.Preorder.{preorder, Stored}
 use Rattle.replacing.specs.declared.Argument.{Argument}
-use Rattle.replacing.specs.Reading.{Area, Reads, Free, Wrote}
+use Rattle.replacing.specs.Reading.{Area, Reads, Free}
 
 -- The fields of a function of type n with argument type p.
 abbrev pub functionFields : ℕ → ℕ → Fields
@@ -51,7 +51,7 @@ pub record Describes (a : Area) (rs : List Record) (g : Argument) (t : Term) : T
   pub is : t ≡ described g tree
 
 -- ts are the m terms that the arguments describe: the first for index 0, the second for the next.
-pub record Given (a : Area) (rs : List Record) (m : ℕ) (first second : Argument) (ts : List Term) : Type 0 where
+pub record DescribesAll (a : Area) (rs : List Record) (m : ℕ) (first second : Argument) (ts : List Term) : Type 0 where
   pub count : length ts ≡ m
   pub each : (j : ℕ) (z : Term) → j < m → Describes a rs (pick (eqb j 0) first second) (getD ts j z)
 
@@ -65,17 +65,17 @@ pub record HasArgument (rs : List Record) (g : Argument) : Type 0 where
 pub record Measures (rs : List Record) (g : Argument) (r : ℕ) : Type 0 where
   pub is : (a : Area) (t : Term) → Describes a rs g t → r ≡ size t
 
--- The described term t can be put at dst, its free indices raised by n.
-pub record Putting (a : Area) (rs : List Record) (g : Argument) (dst n : ℕ) (t : Term) : Type 0 where
+-- The described term t can be copied to dst, its free indices raised by n.
+pub record CopyingArgument (a : Area) (rs : List Record) (g : Argument) (dst n : ℕ) (t : Term) : Type 0 where
   pub describes : Describes a rs g t
   pub free : Free a rs dst (size t)
   pub fits : a .index + n ≤ 65536
 
-pub record CanPut (rs : List Record) (g : Argument) (dst n : ℕ) : Type 0 where
+pub record CanCopyArgument (rs : List Record) (g : Argument) (dst n : ℕ) : Type 0 where
   pub area : Area
   pub term : Term
-  pub can : Putting area rs g dst n term
+  pub can : CopyingArgument area rs g dst n term
 
--- It was put there, and r is the place after it.
-pub record Puts (rs rs′ : List Record) (g : Argument) (dst n r : ℕ) : Type 0 where
-  pub does : (a : Area) (t : Term) → Putting a rs g dst n t → Wrote rs rs′ dst (preorder (raised n t)) r
+-- It was copied there, and r is the place after it.
+pub record CopiesArgument (rs rs′ : List Record) (g : Argument) (dst n r : ℕ) : Type 0 where
+  pub does : (a : Area) (t : Term) → CopyingArgument a rs g dst n t → Stored rs rs′ dst (preorder (raised n t)) r

@@ -6,12 +6,12 @@ use mathlib.Core.Path.{_≡_}
 use Rattle.rules.specs.Terms.{Term, size}
 use Rattle.rules.specs.Indices.{Change, changed, replacing}
 use Rattle.rules.specs.Format.{Record}
-use Rattle.terms.specs.Preorder.{preorder, puts}
+use Rattle.terms.specs.Preorder.{preorder, Stored}
 use Rattle.replacing.specs.declared.Argument.{Argument}
 use Rattle.replacing.specs.declared.Ends.{Ends}
 use Rattle.replacing.specs.Moving.{moving}
-use Rattle.replacing.specs.Reading.{Area, Reads, Free, Wrote}
-use Rattle.replacing.specs.Arguments.{Given}
+use Rattle.replacing.specs.Reading.{Area, Reads, Free}
+use Rattle.replacing.specs.Arguments.{DescribesAll}
 use Rattle.replacing.specs.Roots.{front}
 
 -- What a copy does with the variables. `moves n wrap code`: raises free indices by n, and wraps. `replaces m first second`: replaces m
@@ -28,7 +28,7 @@ pub record Moves (n : ℕ) (wrap : Bool) (code : ℕ) (c : Change) (a : Area) : 
 pub record Replaces (m : ℕ) (first second : Argument) (c : Change) (a : Area) (rs : List Record) : Type 0 where
   pub terms : List Term
   pub is : c ≡ replacing terms
-  pub given : Given a rs m first second terms
+  pub given : DescribesAll a rs m first second terms
   pub fits : a .index + a .depth ≤ 65536
 
 unfoldable pub Meant : Job → Change → Area → List Record → Type 0
@@ -53,13 +53,12 @@ endsAt src dst = record { src = src; dst = dst }
 
 -- It was copied: the records of the changed tree stand at dst, and r is the place after what was read and after what was written.
 pub record Copied (c : Change) (rs rs′ : List Record) (src dst d : ℕ) (t : Term) (r : Ends) : Type 0 where
-  pub records : rs′ ≡ puts rs dst (preorder (changed c d t))
-  pub after-read : r .src ≡ src + size t
-  pub after-written : r .dst ≡ dst + size (changed c d t)
+  pub read : r .src ≡ src + size t
+  pub stored : Stored rs rs′ dst (preorder (changed c d t)) (r .dst)
 
 pub record Copies (j : Job) (rs rs′ : List Record) (src dst d : ℕ) (r : Ends) : Type 0 where
   pub does : (c : Change) (a : Area) (t : Term) → Copying j c a rs src dst d t → Copied c rs rs′ src dst d t r
 
 -- Its root was copied: what the change makes of the root stands at dst, and r is the place after it.
 pub record RootCopies (j : Job) (rs rs′ : List Record) (src dst d r : ℕ) : Type 0 where
-  pub does : (c : Change) (a : Area) (t : Term) → Copying j c a rs src dst d t → Wrote rs rs′ dst (front c d t) r
+  pub does : (c : Change) (a : Area) (t : Term) → Copying j c a rs src dst d t → Stored rs rs′ dst (front c d t) r

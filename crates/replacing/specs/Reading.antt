@@ -2,12 +2,11 @@
 use Prim.Native.Nat.{ℕ, _+_, _*_, _<_, _≤_}
 use mathlib.Core.List.{List}
 use mathlib.Core.Logic.{_⊎_}
-use mathlib.Core.Path.{_≡_}
 use lib.ListN.{length}
-use Rattle.rules.specs.Kinds.{number, variable, matchVariable, matchShape, Kind, leaf₀, unary₁, binary₂, ternary₃}
+use Rattle.rules.specs.Kinds.{number, variable, matchVariable, matchShape, Kind, leaf₀, unary₁, binary₂, ternary₃, match}
 use Rattle.rules.specs.Terms.{Fields, Term, leaf, unary, binary, ternary, size}
 use Rattle.rules.specs.Format.{Record}
-use Rattle.terms.specs.Preorder.{At, puts}
+use Rattle.terms.specs.Preorder.{At}
 
 -- Every index of the term, of a variable and of a match of kind 10, is below b.
 abbrev pub LowIndex : ℕ → Kind → Fields → Type 0
@@ -15,8 +14,8 @@ LowIndex b (leaf₀ number) f = Unit {0}
 LowIndex b (leaf₀ variable) f = f .a < b
 LowIndex b (unary₁ k) f = Unit {0}
 LowIndex b (binary₂ k) f = Unit {0}
-LowIndex b (ternary₃ matchVariable) f = f .a < b
-LowIndex b (ternary₃ (matchShape k)) f = Unit {0}
+LowIndex b (ternary₃ (match matchVariable)) f = f .a < b
+LowIndex b (ternary₃ (match (matchShape k))) f = Unit {0}
 
 unfoldable pub Low : ℕ → Term → Type 0
 Low b (leaf k f) = LowIndex b (leaf₀ k) f
@@ -44,8 +43,3 @@ pub record Reads (a : Area) (rs : List Record) (i d : ℕ) (t : Term) : Type 0 w
 pub record Free (a : Area) (rs : List Record) (dst n : ℕ) : Type 0 where
   pub room : dst + n ≤ length rs
   pub apart : (a .hi ≤ dst) ⊎ (dst + n ≤ a .lo)
-
--- The records vs were written from dst on, and r is the place after them.
-pub record Wrote (rs rs′ : List Record) (dst : ℕ) (vs : List Record) (r : ℕ) : Type 0 where
-  pub records : rs′ ≡ puts rs dst vs
-  pub end : r ≡ dst + length vs

@@ -4,14 +4,14 @@ ghost use Prim.Native.Nat.{_+_, _<_, _≤_};
 ghost use mathlib.Core.List.{[], _∷_};
 ghost use lib.ListN.{length};
 ghost use Rattle.rules.specs.Lists.{pick};
-ghost use Rattle.rules.specs.Indices.{raisedIndex, loweredIndex};
+ghost use Rattle.rules.specs.Indices.{raisedIndex, loweredIndex, namesRemoved};
 ghost use Rattle.records.specs.View.{recordsIn};
 ghost use Rattle.records.specs.Meant.{recordMeant};
+ghost use Rattle.terms.specs.Preorder.{Stored};
 ghost use Rattle.replacing.specs.Moving.{keptBinders};
-ghost use Rattle.replacing.specs.Reading.{Wrote};
-ghost use Rattle.replacing.specs.Arguments.{madeRecords, madeCount, HasArgument, Measures, CanPut, Puts};
-ghost use Rattle.replacing.specs.Roots.{Branches, namesRemoved, givesWay, isWrapped, indexed, typedAs, madeRecord, moved, IndexFits};
-ghost use Rattle.replacing.specs.Counting.{CanCount, Counts, CanAdd, Adds, RootAdds, RoomFor, OneMore};
+ghost use Rattle.replacing.specs.Arguments.{madeRecords, madeCount, HasArgument, Measures, CanCopyArgument, CopiesArgument};
+ghost use Rattle.replacing.specs.Roots.{Branches, givesWay, isWrapped, indexed, typedAs, madeRecord, moved, IndexFits};
+ghost use Rattle.replacing.specs.Counting.{CanTally, Tallies, CanAdd, Adds, RootAdds, RoomFor, OneMore};
 ghost use Rattle.replacing.specs.Copying.{endsAt, moves, replaces, CanCopy, Copies, RootCopies};
 
 // The kinds of the records that are made.
@@ -39,7 +39,7 @@ pub struct Argument {
 }
 
 // What was counted of a tree: the place after it, its records, and how many of its variables gave way.
-pub struct Counted {
+pub struct Tally {
     pub next: usize,
     pub records: usize,
     pub replaced: usize,
@@ -168,7 +168,7 @@ fn made(kind: u16, ty: u16, a: u16) -> records::Record
 // Writes a record; returns the place after it.
 fn put_one(w: &mut [u8], dst: usize, x: records::Record) -> usize
     requires { ⌜ dst < length (recordsIn (now w)) ⌝ }
-    ensures { λ r. ⌜ Wrote (recordsIn (now (w .entry))) (recordsIn (now (w .exit))) dst (recordMeant x ∷ []) r ⌝ }
+    ensures { λ r. ⌜ Stored (recordsIn (now (w .entry))) (recordsIn (now (w .exit))) dst (recordMeant x ∷ []) r ⌝ }
 {
     records::put(w, dst, x);
     dst + 1
@@ -177,14 +177,14 @@ fn put_one(w: &mut [u8], dst: usize, x: records::Record) -> usize
 // Writes two records; returns the place after them.
 fn put_two(w: &mut [u8], dst: usize, x: records::Record, y: records::Record) -> usize
     requires { ⌜ dst + 1 < length (recordsIn (now w)) ⌝ }
-    ensures { λ r. ⌜ Wrote (recordsIn (now (w .entry))) (recordsIn (now (w .exit))) dst (recordMeant x ∷ recordMeant y ∷ []) r ⌝ }
+    ensures { λ r. ⌜ Stored (recordsIn (now (w .entry))) (recordsIn (now (w .exit))) dst (recordMeant x ∷ recordMeant y ∷ []) r ⌝ }
 {
     let next = put_one(w, dst, x);
     put_one(w, next, y)
 }
 
 // The two places, made anew: a result that is handed on whole would be stored and read back at each return.
-fn both(src: usize, dst: usize) -> Ends
+fn ended_at(src: usize, dst: usize) -> Ends
     ensures { λ r. ⌜ r ≡ endsAt src dst ⌝ }
 {
     Ends { src: src, dst: dst }
@@ -220,24 +220,24 @@ pub fn copy_raised(
     let children = branching.children;
     let end = raise_root(w, src, dst, n, d, wrap, code);
     if children == 0 {
-        return both(src + 1, end);
+        return ended_at(src + 1, end);
     }
     let one = copy_raised(w, src + 1, end, n, d + branching.first, wrap, code);
     if children == 1 {
-        return both(one.src, one.dst);
+        return ended_at(one.src, one.dst);
     }
     let two = copy_raised(w, one.src, one.dst, n, d + branching.second, wrap, code);
     if children == 2 {
-        return both(two.src, two.dst);
+        return ended_at(two.src, two.dst);
     }
     let three = copy_raised(w, two.src, two.dst, n, d, wrap, code);
-    both(three.src, three.dst)
+    ended_at(three.src, three.dst)
 }
 
 // Writes the records that an argument has before those of its tree; returns the place after them.
 fn put_made(w: &mut [u8], g: Argument, dst: usize) -> usize
     requires { ⌜ dst + length (madeRecords g) ≤ length (recordsIn (now w)) ⌝ }
-    ensures { λ r. ⌜ Wrote (recordsIn (now (w .entry))) (recordsIn (now (w .exit))) dst (madeRecords g) r ⌝ }
+    ensures { λ r. ⌜ Stored (recordsIn (now (w .entry))) (recordsIn (now (w .exit))) dst (madeRecords g) r ⌝ }
 {
     let form = g.form;
     if 1 < form {
@@ -251,8 +251,8 @@ fn put_made(w: &mut [u8], g: Argument, dst: usize) -> usize
 
 // Writes the term that an argument describes, its free indices raised by n; returns the place after it.
 pub fn copy_argument(w: &mut [u8], g: Argument, dst: usize, n: u16) -> usize
-    requires { ⌜ CanPut (recordsIn (now w)) g dst n ⌝ }
-    ensures { λ r. ⌜ Puts (recordsIn (now (w .entry))) (recordsIn (now (w .exit))) g dst n r ⌝ }
+    requires { ⌜ CanCopyArgument (recordsIn (now w)) g dst n ⌝ }
+    ensures { λ r. ⌜ CopiesArgument (recordsIn (now (w .entry))) (recordsIn (now (w .exit))) g dst n r ⌝ }
 {
     let start = put_made(w, g, dst);
     let ends = copy_raised(w, g.at, start, n, 0, 1 < g.form, g.a);
@@ -260,11 +260,11 @@ pub fn copy_argument(w: &mut [u8], g: Argument, dst: usize, n: u16) -> usize
 }
 
 // One record more is read, which counts so much.
-fn one_more(sum: Counted, records: usize, replaced: usize) -> Counted
+fn one_more(sum: Tally, records: usize, replaced: usize) -> Tally
     requires { ⌜ RoomFor sum records replaced ⌝ }
     ensures { λ r. ⌜ OneMore sum records replaced r ⌝ }
 {
-    Counted {
+    Tally {
         next: sum.next + 1,
         records: sum.records + records,
         replaced: sum.replaced + replaced,
@@ -272,7 +272,7 @@ fn one_more(sum: Counted, records: usize, replaced: usize) -> Counted
 }
 
 // Adds the record at the place reached: 1, or where it gives way, the size of what it gives way to.
-fn count_root(w: &[u8], sum: Counted, d: u16, m: u16, first: usize, second: usize) -> Counted
+fn count_root(w: &[u8], sum: Tally, d: u16, m: u16, first: usize, second: usize) -> Tally
     requires { ⌜ CanAdd (recordsIn (now w)) sum d m first second ⌝ }
     ensures { λ r. ⌜ RootAdds (recordsIn (now (w .entry))) sum d m first second r ⌝ }
 {
@@ -291,7 +291,7 @@ fn chosen_size(first: usize, second: usize, inner: bool) -> usize
 }
 
 // Adds the records of the tree at the place reached.
-fn add_counts(w: &[u8], sum: Counted, d: u16, m: u16, first: usize, second: usize) -> Counted
+fn add_counts(w: &[u8], sum: Tally, d: u16, m: u16, first: usize, second: usize) -> Tally
     requires { ⌜ CanAdd (recordsIn (now w)) sum d m first second ⌝ }
     ensures { λ r. ⌜ Adds (recordsIn (now (w .entry))) sum d m first second r ⌝ }
 {
@@ -299,7 +299,7 @@ fn add_counts(w: &[u8], sum: Counted, d: u16, m: u16, first: usize, second: usiz
     let children = branching.children;
     let root = count_root(w, sum, d, m, first, second);
     if children == 0 {
-        return Counted {
+        return Tally {
             next: root.next,
             records: root.records,
             replaced: root.replaced,
@@ -307,7 +307,7 @@ fn add_counts(w: &[u8], sum: Counted, d: u16, m: u16, first: usize, second: usiz
     }
     let one = add_counts(w, root, d + branching.first, m, first, second);
     if children == 1 {
-        return Counted {
+        return Tally {
             next: one.next,
             records: one.records,
             replaced: one.replaced,
@@ -315,27 +315,27 @@ fn add_counts(w: &[u8], sum: Counted, d: u16, m: u16, first: usize, second: usiz
     }
     let two = add_counts(w, one, d + branching.second, m, first, second);
     if children == 2 {
-        return Counted {
+        return Tally {
             next: two.next,
             records: two.records,
             replaced: two.replaced,
         };
     }
     let three = add_counts(w, two, d, m, first, second);
-    Counted {
+    Tally {
         next: three.next,
         records: three.records,
         replaced: three.replaced,
     }
 }
 
-// Counts the tree at src, d binders of its own passed before it, as it will be once m variables have given way: the one of the innermost
+// Tallies the tree at src, d binders of its own passed before it, as it will be once m variables have given way: the one of the innermost
 // removed binder to a term of size `first`, another to one of size `second`.
-pub fn count_replaced(w: &[u8], src: usize, d: u16, m: u16, first: usize, second: usize) -> Counted
-    requires { ⌜ CanCount (recordsIn (now w)) src d first second ⌝ }
-    ensures { λ r. ⌜ Counts (recordsIn (now (w .entry))) src d m first second r ⌝ }
+pub fn count_replaced(w: &[u8], src: usize, d: u16, m: u16, first: usize, second: usize) -> Tally
+    requires { ⌜ CanTally (recordsIn (now w)) src d first second ⌝ }
+    ensures { λ r. ⌜ Tallies (recordsIn (now (w .entry))) src d m first second r ⌝ }
 {
-    let none = Counted {
+    let none = Tally {
         next: src,
         records: 0,
         replaced: 0,
@@ -432,16 +432,16 @@ pub fn copy_replaced(
     let children = branching.children;
     let end = replace_root(w, src, dst, d, m, first, second);
     if children == 0 {
-        return both(src + 1, end);
+        return ended_at(src + 1, end);
     }
     let one = copy_replaced(w, src + 1, end, d + branching.first, m, first, second);
     if children == 1 {
-        return both(one.src, one.dst);
+        return ended_at(one.src, one.dst);
     }
     let two = copy_replaced(w, one.src, one.dst, d + branching.second, m, first, second);
     if children == 2 {
-        return both(two.src, two.dst);
+        return ended_at(two.src, two.dst);
     }
     let three = copy_replaced(w, two.src, two.dst, d, m, first, second);
-    both(three.src, three.dst)
+    ended_at(three.src, three.dst)
 }

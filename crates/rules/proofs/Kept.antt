@@ -5,7 +5,7 @@ use mathlib.Core.Path.{_≡_, refl, ap, ap₂}
 use lib.Dec.{T}
 use lib.ListN.{length, length-append, length-map}
 use mir.Facts.{and-yes}
-use Rattle.rules.specs.Kinds.{number, variable, Ternary, matchVariable, matchShape, leaf₀, ternary₃, unary₁}
+use Rattle.rules.specs.Kinds.{number, variable, Ternary, matchVariable, matchShape, leaf₀, ternary₃, unary₁, match}
 use Rattle.rules.specs.Terms.{Fields, Term, leaf, unary, binary, ternary, typeOf}
 use Rattle.rules.specs.Binders.{binds₁, binds₃}
 use Rattle.rules.specs.Indices.{Change, onFields, changed}
@@ -13,7 +13,7 @@ use Rattle.rules.specs.Types.{Table, partA}
 use Rattle.rules.specs.Conditions.{Holds}
 use Rattle.rules.specs.FieldUses.{formed}
 use Rattle.rules.specs.Typing.{Env, bind, under, level₁, Typed, bound, placed, typed}
-use Rattle.rules.specs.Steps.{plain, plainKind}
+use Rattle.rules.specs.Values.{plain, plainKind}
 use Rattle.rules.proofs.Facts.{Has, Names, named}
 
 -- The index that a match of kind 10 names is kept.
@@ -25,10 +25,10 @@ module _ (types : Table) (c : Change) (Γ Γ′ : Env) where
       → Holds (formed types (ternary₃ k) f) → Holds (bound (Γ₁ ++ Γ) (ternary₃ k) f) → Holds (placed (Γ₁ ++ Γ) l (ternary₃ k) f) → Holds (typed types (Γ₁ ++ Γ) (ternary₃ k) f n s e)
       → let g = onFields c (length Γ₁) k f in (binds₃ k g ≡ binds₃ k f) × (g .type ≡ f .type)
       × Holds (formed types (ternary₃ k) g) × Holds (bound (Γ₁ ++ Γ′) (ternary₃ k) g) × Holds (placed (Γ₁ ++ Γ′) l (ternary₃ k) g) × Holds (typed types (Γ₁ ++ Γ′) (ternary₃ k) g n s e)
-  match-kept Γ₁ l matchVariable f n s e ix o (p, _) (z, (q, _)) (x, (y, (w, (r, _)))) =
+  match-kept Γ₁ l (match matchVariable) f n s e ix o (p, _) (z, (q, _)) (x, (y, (w, (r, _)))) =
       let (b, i) = ix Γ₁ (f .a) (partA types n) (p, ap₂ bind q r) in
       (refl, refl, o, (b, tt), (z, (ap (λ b. b .level) i, tt)), (x, (y, (w, (ap (λ b. b .type) i, tt)))))
-  match-kept Γ₁ l (matchShape k) f n s e ix o p q r = (refl, refl, o, p, q, r)
+  match-kept Γ₁ l (match (matchShape k)) f n s e ix o p q r = (refl, refl, o, p, q, r)
 
   -- Below the variables that a record binds.
   inside : (Γ₁ : Env) (l m : ℕ) (ns : List ℕ) (t : Term)
@@ -48,9 +48,9 @@ module _ (types : Table) (c : Change) (Γ Γ′ : Env) where
         let (h′, e) = kept Γ₁ l t (λ n. ix (λ p. n (and-yes (plain t) (plain u) p .0))) h in
         let (j′, d) = kept Γ₁ l u (λ n. ix (λ p. n (and-yes (plain t) (plain u) p .1))) j in
         (((o, b, p, rw (e, d) q), h′, j′), refl)
-    kept Γ₁ l (ternary k f t s e) ix ((o, p, q, r), h, j, m) =
+    kept Γ₁ l (ternary (match k) f t s e) ix ((o, p, q, r), h, j, m) =
         let (h′, d) = kept Γ₁ l t (λ n. ix (λ p. p)) h in
-        let (j′, d′) = inside Γ₁ 0 l (binds₃ k f) s (kept (under 0 (binds₃ k f) Γ₁) l s (λ n. ix (λ p. p))) j in
+        let (j′, d′) = inside Γ₁ 0 l (binds₃ (match k) f) s (kept (under 0 (binds₃ (match k) f) Γ₁) l s (λ n. ix (λ p. p))) j in
         let (m′, d″) = kept Γ₁ l e (λ n. ix (λ p. p)) m in
-        let (b, y, o′, p′, q′, r′) = match-kept Γ₁ l k f (typeOf t) (typeOf s) (typeOf e) (ix (λ p. p)) o p q r in
+        let (b, y, o′, p′, q′, r′) = match-kept Γ₁ l (match k) f (typeOf t) (typeOf s) (typeOf e) (ix (λ p. p)) o p q r in
         (((o′, p′, q′, rw (d, d′, d″) r′), h′, rw b j′, m′), y)

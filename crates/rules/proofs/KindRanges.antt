@@ -8,7 +8,7 @@ use mathlib.Core.Path.{_≡_, refl, ap}
 use lib.Dec.{T, T-not, eqb, leb, eqb→eq, leb→le, le→leb}
 use mir.Facts.{and-yes, yes-and}
 use Rattle.rules.specs.Lists.{pick, All, listed}
-use Rattle.rules.specs.Kinds.{number, function, fix, lift, quote, splice, Kind, leaf₀, unary₁, binary₂, ternary₃, kindNumber, lastKind, kinds, numbered, kindOf}
+use Rattle.rules.specs.Kinds.{number, function, fix, lift, quote, splice, Kind, leaf₀, unary₁, binary₂, ternary₃, kindNumber, highestKind, kinds, numbered, kindOf}
 use Rattle.rules.specs.Conditions.{holds}
 use Rattle.rules.specs.Typing.{Levels, anyLevel, onlyZero, onlyOne, levels, standing, firstLevel}
 use Rattle.rules.proofs.General.{picked}
@@ -24,9 +24,9 @@ in-range P from (suc count) (h, r) k a b = elim (decLt from k) [
 ]
 
 -- A number of the table is that of its kind.
-pub number-back : (k : ℕ) → 1 ≤ k → k ≤ lastKind → kindNumber (kindOf k) ≡ k
+pub number-back : (k : ℕ) → 1 ≤ k → k ≤ highestKind → kindNumber (kindOf k) ≡ k
 unfolding kindOf numbered listed
-number-back k a b = in-range (λ k. kindNumber (kindOf k) ≡ k) 1 lastKind (omega arith) k a (omega arith)
+number-back k a b = in-range (λ k. kindNumber (kindOf k) ≡ k) 1 highestKind (omega arith) k a (omega arith)
 
 -- Another number stands for kind 1.
 none-numbered : (n : ℕ) → ((k : Kind) → kindNumber k ≡ n → ⊥) → (ks : List Kind) → numbered n ks ≡ leaf₀ number
@@ -34,7 +34,7 @@ unfolding numbered
 none-numbered n h [] = refl
 none-numbered n h (k ∷ ks) = picked (λ x. x ≡ leaf₀ number) (eqb (kindNumber k) n) (λ t. absurd (h k (eqb→eq (kindNumber k) n t))) (λ _. none-numbered n h ks)
 
-pub unknown-kind : (n : ℕ) → (1 ≤ n → n ≤ lastKind → ⊥) → kindOf n ≡ leaf₀ number
+pub unknown-kind : (n : ℕ) → (1 ≤ n → n ≤ highestKind → ⊥) → kindOf n ≡ leaf₀ number
 unfolding kindOf
 unknown-kind n h = none-numbered n (λ k e. let (a, b) = kind-range k in h (omega arith) (omega arith)) kinds
 
@@ -71,7 +71,7 @@ module _ {A : Type 0} (num : A → ℕ) (one : (x y : A) → num x ≡ num y →
   abbrev Covers : ℕ → ℕ → Kind → Bool
   Covers low high k = not (leb low (kindNumber k) && leb (kindNumber k) high) || Gives k
 
-  pub arm : (low high : ℕ) → (1 ≤ low) × (high ≤ lastKind) × All (λ k. T (Covers low high k)) kinds → (k : ℕ) → (low ≤ k) × (k ≤ high) → r ≡ f (kindOf k)
+  pub arm : (low high : ℕ) → (1 ≤ low) × (high ≤ highestKind) × All (λ k. T (Covers low high k)) kinds → (k : ℕ) → (low ≤ k) × (k ≤ high) → r ≡ f (kindOf k)
   arm low high (l, m, h) k (p, q) =
       let e = number-back k (omega arith) (omega arith) in
       let n = kindNumber (kindOf k) in
@@ -82,7 +82,7 @@ module _ {A : Type 0} (num : A → ℕ) (one : (x y : A) → num x ≡ num y →
   pub rest : (rs : List (ℕ × ℕ)) → T (Gives (leaf₀ number)) × All (λ k. T (within rs (kindNumber k) || Gives k)) kinds → (k : ℕ) → Beside k rs → r ≡ f (kindOf k)
   rest rs (z, h) k b = elim (decLt 0 k) [
     | no n ↦ given (kindOf k) (rw (unknown-kind k (λ p q. n p)) z)
-    | yes p ↦ elim (decLt lastKind k) [
+    | yes p ↦ elim (decLt highestKind k) [
       | yes l ↦ given (kindOf k) (rw (unknown-kind k (λ _ q. omega arith)) z)
       | no l ↦
           let e = number-back k p (omega arith) in

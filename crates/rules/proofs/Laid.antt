@@ -20,6 +20,7 @@ use Rattle.rules.specs.FieldUses.{formed}
 use Rattle.rules.specs.Typing.{Env, Typed}
 use Rattle.rules.specs.Format.{Record, noRecord, recordNo}
 use Rattle.rules.specs.Links.{named, firstOf, nextOf, node, treeOf, linked, laid}
+use Rattle.rules.specs.Editions.{Edition, HasEveryKind}
 use Rattle.rules.specs.Check.{is, naming, fieldsRule, children, childrenRule}
 use Rattle.rules.proofs.General.{picked, is-true, is-false}
 use Rattle.rules.proofs.KindTable.{kind-back, kind-range}
@@ -160,10 +161,10 @@ module _ (rs : List Record) where
       let c″ = ap (treeOf left rs) (ap (nextOf rs) d ∙ next-of s m m′ j) ∙ tree-back left e m′ 0 (omega arith) (omega arith) o in
       tree-node left n z h ∙ (λ i. ternary k f (c i) (c′ i) (c″ i))
 
-  module _ (types : Table) where
+  module _ (edition : Edition) (all : HasEveryKind edition) (types : Table) where
     -- Rules 7 and 9, and the links of 8.
     pub record Good (n : ℕ) : Type 0 where
-      pub fielded : Holds (fieldsRule types (recordNo rs n))
+      pub fielded : Holds (fieldsRule edition types (recordNo rs n))
       pub first-good : recordNo rs n .first ≡ firstOf rs n
       pub next-good : recordNo rs n .next ≡ nextOf rs n
       pub chained : Holds (childrenRule rs n)
@@ -171,7 +172,7 @@ module _ (rs : List Record) where
     node-good : (n : ℕ) {k : Kind} {f : Fields} {first next : ℕ} (s e x : ℕ) → Node n k f first next → nextOf rs first ≡ s → nextOf rs s ≡ e → nextOf rs e ≡ x
         → Holds (formed types k f) → Holds (children k first s e x) → Good n
     node-good n {k} {f} {first} {next} s e x h p q r o c = record {
-      fielded = rw (h .reads) (kind-range k, rw (kind-back k) o);
+      fielded = rw (h .reads) (omega (arith, kind-range k), rw (kind-back k) o);
       first-good = ap (λ r. r .first) (h .reads) ∙ sym (h .to-first);
       next-good = ap (λ r. r .next) (h .reads) ∙ sym (h .to-next);
       chained = rw (kind-of h, h .to-first) (rw (p, q, r) c);

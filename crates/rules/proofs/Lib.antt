@@ -1,4 +1,4 @@
--- What is true of the definitions, from general facts to demand 3.
+-- What is true of the definitions, from general facts to demand 3, the bench sheet and the readings.
 pub mod General
 pub mod KindTable
 pub mod KindRanges
@@ -8,16 +8,23 @@ pub mod Kept
 pub mod Moves
 pub mod Preserved
 pub mod Tests
+pub mod RuleKinds
 pub mod Agree
+pub mod Events
 pub mod Progress
-pub mod Bench
+pub mod Courses
 pub mod Sums
 pub mod Tree
+pub mod Generations
+pub mod Twelve
 pub mod Meaning
 pub mod Laid
 pub mod Bytes
 pub mod Written
 pub mod Whole
+pub mod Sheets
+pub mod Bench
+pub mod Limits
 pub mod Small
-pub mod Twelve
 pub mod Readings
+pub mod Moving

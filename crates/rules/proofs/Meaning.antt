@@ -4,19 +4,21 @@ use native.Mathlib.Omega.{arith}
 use native.Mathlib.Decide.{decLt}
 use mathlib.Core.List.{List, []}
 use mathlib.Core.Logic.{_↔_}
-use mathlib.Core.Option.{none}
-use mathlib.Core.Path.{_≡_, sym, _∙_, ap₂}
+use mathlib.Core.Option.{Option, none, some}
+use mathlib.Core.Path.{_≡_, refl, sym, _∙_, ap, ap₂}
 use lib.ListN.{length, getD}
 use Rattle.rules.specs.Lists.{pick}
+use Rattle.rules.specs.Editions.{Edition}
 use Rattle.rules.specs.Terms.{typeOf, size}
 use Rattle.rules.specs.Types.{Table, entry, noEntry, NoTwins}
 use Rattle.rules.specs.Conditions.{met, Holds, same, sameEntry}
 use Rattle.rules.specs.Format.{Record, typeCount, recordCount, tableOf, recordsOf}
 use Rattle.rules.specs.Links.{firstTerm, NoBadLink}
-use Rattle.rules.specs.Refusals.{lowest, badLink}
+use Rattle.rules.specs.Refusals.{Refusal, OneOfTwelve, programShort, badCounts, badLength, badEntry, badField, badLink, badChildren, lowest}
 use Rattle.rules.specs.Check.{entryRule, refusalOf, refusal, checkAnswer, passing, typeNo, linksRule}
 use Rattle.rules.specs.Meets.{MeetsForm, Meets}
-use Rattle.rules.proofs.General.{is-true, length-listed}
+use Rattle.rules.proofs.General.{is-true, length-listed, Gives}
+use Rattle.rules.proofs.Twelve.{refusal-numbered}
 use Rattle.rules.proofs.Tables.{Distinct, no-twins}
 use Rattle.rules.proofs.Tests.{passes, both-pass, pass-both, holds-unless, unless-holds, holds-lowest, lowest-holds}
 use Rattle.rules.proofs.Sums.{total-zero-at}
@@ -29,24 +31,24 @@ no-bad-link rs h =
     record { first = λ n p q. l n p (omega arith) .0; next = λ n p q. l n p (omega arith) .1 .0 }
 
 -- Passed exactly when the rules are met.
-form-met : (types : Table) (rs : List Record) → 0 < length rs → refusalOf types rs ≡ none → MeetsForm types rs
+form-met : (edition : Edition) (types : Table) (rs : List Record) → 0 < length rs → refusalOf edition types rs ≡ none → MeetsForm edition types rs
 unfolding refusalOf
-form-met types rs z h =
+form-met edition types rs z h =
     let (h6, h₁) = both-pass _ _ h in
     let (h7, h₂) = both-pass _ _ h₁ in
     let (h8, h₃) = both-pass _ _ h₂ in
     let (h9, walk) = both-pass _ _ h₃ in
-    let f = holds-lowest _ 7 1 (length rs) h7 in
-    let c = holds-lowest _ 9 1 (length rs) h9 in
-    record { entries = holds-lowest _ 6 1 (length types) h6; fielded = f; linked = holds-lowest _ 8 1 (length rs) h8; chained = c; typed = walk-typed rs types f c (length rs) 1 [] 0 (omega arith) z (omega arith) walk }
+    let f = holds-lowest _ badField 1 (length rs) h7 in
+    let c = holds-lowest _ badChildren 1 (length rs) h9 in
+    record { entries = holds-lowest _ badEntry 1 (length types) h6; fielded = f; linked = holds-lowest _ badLink 1 (length rs) h8; chained = c; typed = walk-typed rs types edition f c (length rs) 1 [] 0 (omega arith) z (omega arith) walk }
 
-met-form : (types : Table) (rs : List Record) → 0 < length rs → MeetsForm types rs → refusalOf types rs ≡ none
+met-form : (edition : Edition) (types : Table) (rs : List Record) → 0 < length rs → MeetsForm edition types rs → refusalOf edition types rs ≡ none
 unfolding refusalOf
-met-form types rs z m =
-    pass-both (lowest-holds _ 6 1 (length types) (m .entries))
-    (pass-both (lowest-holds _ 7 1 (length rs) (m .fielded))
-    (pass-both (lowest-holds _ 8 1 (length rs) (m .linked))
-    (pass-both (lowest-holds _ 9 1 (length rs) (m .chained)) (typed-walk rs types (m .chained) (length rs) 1 [] 0 z (λ _. m .typed)))))
+met-form edition types rs z m =
+    pass-both (lowest-holds _ badEntry 1 (length types) (m .entries))
+    (pass-both (lowest-holds _ badField 1 (length rs) (m .fielded))
+    (pass-both (lowest-holds _ badLink 1 (length rs) (m .linked))
+    (pass-both (lowest-holds _ badChildren 1 (length rs) (m .chained)) (typed-walk rs types (m .chained) (length rs) 1 [] 0 z (λ _. m .typed)))))
 
 pub types-counted : (program : List ℕ) → length (tableOf program) ≡ typeCount program
 unfolding tableOf
@@ -56,20 +58,20 @@ pub records-counted : (program : List ℕ) → length (recordsOf program) ≡ re
 unfolding recordsOf
 records-counted program = length-listed _ 0 (recordCount program)
 
-pub exactly : (program : List ℕ) → refusal program ≡ none ↔ Meets program
+pub exactly : (edition : Edition) (program : List ℕ) → refusal edition program ≡ none ↔ Meets edition program
 unfolding refusal
-exactly program =
+exactly edition program =
     let R = records-counted program in (
       λ h.
           let (h3, h₁) = both-pass _ _ h in
           let (h4, h₂) = both-pass _ _ h₁ in
           let (h5, h₃) = both-pass _ _ h₂ in
-          let c = holds-unless _ 4 0 h4 in
-          record { counts = c; exact = holds-unless _ 5 0 h5 .0; form = form-met (tableOf program) (recordsOf program) (omega (arith, c .1 .0)) h₃ },
+          let c = holds-unless _ badCounts 0 h4 in
+          record { counts = c; exact = holds-unless _ badLength 0 h5 .0; form = form-met edition (tableOf program) (recordsOf program) (omega (arith, c .1 .0)) h₃ },
       λ m.
           let c = m .counts in
           let e = m .exact in
-          pass-both (unless-holds _ 3 0 (omega (arith, c .0), tt)) (pass-both (unless-holds _ 4 0 c) (pass-both (unless-holds _ 5 0 (e, tt)) (met-form (tableOf program) (recordsOf program) (omega (arith, c .1 .0)) (m .form)))),
+          pass-both (unless-holds _ programShort 0 (omega (arith, c .0), tt)) (pass-both (unless-holds _ badCounts 0 c) (pass-both (unless-holds _ badLength 0 (e, tt)) (met-form edition (tableOf program) (recordsOf program) (omega (arith, c .1 .0)) (m .form)))),
     )
 
 -- Equal types have equal numbers.
@@ -90,15 +92,29 @@ module _ (types : Table) (good : (n : ℕ) → 1 ≤ n → n < 1 + length types 
   unlike = no-twins types distinct
 
 -- What a program's meeting the rules means.
-module _ (program : List ℕ) (meets : Meets program) where
+module _ (edition : Edition) (program : List ℕ) (meets : Meets edition program) where
   pub root-size : size (firstTerm program) ≡ recordCount program
   root-size = let R = records-counted program in whole-size (recordsOf program) (meets .form .chained) (meets .form .linked) (omega (arith, meets .counts .1 .0)) ∙ R
 
-pub answered : (program : List ℕ) → refusal program ≡ none → checkAnswer program ≡ passing (typeNo (recordsOf program) 1) (recordCount program)
-unfolding checkAnswer
-answered program h = rw (h, checkAnswer)
+module _ (edition : Edition) (program : List ℕ) where
+  pub answered : refusal edition program ≡ none → checkAnswer edition program ≡ passing (typeNo (recordsOf program) 1) (recordCount program)
+  unfolding checkAnswer
+  answered h = rw (h, checkAnswer)
 
--- What check returns for a program that meets the rules.
-pub check-answers : (program : List ℕ) → Meets program → checkAnswer program ≡ passing (typeOf (firstTerm program)) (size (firstTerm program))
-check-answers program m = answered program (exactly program .1 m)
-    ∙ ap₂ passing (sym (tree-type (recordsOf program) (length (recordsOf program)) 1)) (sym (root-size program m))
+  -- What check returns for a program that meets the rules.
+  pub check-answers : Meets edition program → checkAnswer edition program ≡ passing (typeOf (firstTerm program)) (size (firstTerm program))
+  check-answers m = answered (exactly edition program .1 m)
+      ∙ ap₂ passing (sym (tree-type (recordsOf program) (length (recordsOf program)) 1)) (sym (root-size edition program m))
+
+  -- No refusal has number 0.
+  unrefused : checkAnswer edition program .number ≡ 0 → refusal edition program ≡ none
+  unfolding checkAnswer
+  unrefused z = go (refusal edition program) refl (refusal-numbered edition program)
+    where
+      go : (o : Option Refusal) → refusal edition program ≡ o → Gives OneOfTwelve o → o ≡ none
+      go none e h = refl
+      go (some r) e h = absurd (omega (arith, rw (e, checkAnswer) at z))
+
+  -- Demand 2: check's answer has number 0 exactly when the program meets the rules.
+  pub passed-exactly : checkAnswer edition program .number ≡ 0 ↔ Meets edition program
+  passed-exactly = (λ z. exactly edition program .0 (unrefused z), λ m. ap (λ a. a .number) (check-answers m))

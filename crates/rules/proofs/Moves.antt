@@ -13,7 +13,7 @@ use Rattle.rules.specs.Types.{Table, entry, Code}
 use Rattle.rules.specs.Conditions.{Holds}
 use Rattle.rules.specs.FieldUses.{formed}
 use Rattle.rules.specs.Typing.{Env, Binder, bind, under, Typed}
-use Rattle.rules.specs.Steps.{plain}
+use Rattle.rules.specs.Values.{plain}
 use Rattle.rules.proofs.General.{picked}
 use Rattle.rules.proofs.Tables.{entry-in}
 use Rattle.rules.proofs.Facts.{Has, Names, stands, names-low, names-high}

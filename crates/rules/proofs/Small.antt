@@ -4,11 +4,39 @@ use Rattle.rules.specs.Lists.{All, listed, joined, total}
 use Rattle.rules.specs.Kinds.{kindOf, numbered}
 use Rattle.rules.specs.Format.{tableOf, recordsOf, programBytes}
 use Rattle.rules.specs.Refusals.{unless, _then_, lowest}
-use Rattle.rules.specs.Check.{walked, refusalOf, refusal}
+use Rattle.rules.specs.Check.{walked, refusalOf, refusal, checkAnswer}
 use Rattle.rules.specs.Run.{runAnswer}
-use Rattle.rules.specs.SmallInputs.{Refused, smallInputs}
+use Rattle.rules.specs.SmallInputs.{shortBuffers, BuffersRefused, smallPrograms, ProgramRefused}
 use Rattle.rules.proofs.General.{_&_}
 
-pub small-refused : All Refused smallInputs
-unfolding listed tableOf recordsOf joined programBytes unless _then_ lowest total walked refusalOf refusal runAnswer kindOf numbered
-small-refused = refl & refl & refl & refl & refl & refl & refl & refl & refl & refl & refl & refl & refl & refl & refl & refl & tt
+pub buffers-refused : All BuffersRefused shortBuffers
+unfolding unless _then_ runAnswer
+buffers-refused = (λ program fuel. refl) & (λ program fuel. refl) & (λ program fuel. refl) & tt
+
+pub small-refused : All ProgramRefused smallPrograms
+unfolding listed tableOf recordsOf joined programBytes unless _then_ lowest total walked refusalOf refusal checkAnswer runAnswer kindOf numbered
+small-refused =
+    record { check = refl; run = λ fuel. refl }
+    & record { check = refl; run = λ fuel. refl }
+    & record { check = refl; run = λ fuel. refl }
+    & record { check = refl; run = λ fuel. refl }
+    & record { check = refl; run = λ fuel. refl }
+    & record { check = refl; run = λ fuel. refl }
+    & record { check = refl; run = λ fuel. refl }
+    & record { check = refl; run = λ fuel. refl }
+    & record { check = refl; run = λ fuel. refl }
+    & record { check = refl; run = λ fuel. refl }
+    & record { check = refl; run = λ fuel. refl }
+    & record { check = refl; run = λ fuel. refl }
+    & record { check = refl; run = λ fuel. refl }
+    & record { check = refl; run = λ fuel. refl }
+    & record { check = refl; run = λ fuel. refl }
+    & record { check = refl; run = λ fuel. refl }
+    & record { check = refl; run = λ fuel. refl }
+    & record { check = refl; run = λ fuel. refl }
+    & record { check = refl; run = λ fuel. refl }
+    & record { check = refl; run = λ fuel. refl }
+    & record { check = refl; run = λ fuel. refl }
+    & record { check = refl; run = λ fuel. refl }
+    & record { check = refl; run = λ fuel. refl }
+    & tt

@@ -18,6 +18,8 @@ use Rattle.rules.specs.Conditions.{Holds, equal}
 use Rattle.rules.specs.Typing.{Env, under, Judged, Typed, firstLevel}
 use Rattle.rules.specs.Format.{Record, recordNo}
 use Rattle.rules.specs.Links.{named, firstOf, nextOf, node, treeOf, rootTree}
+use Rattle.rules.specs.Editions.{Edition}
+use Rattle.rules.specs.Refusals.{badIndex, badLevel, badType}
 use Rattle.rules.specs.Check.{fieldsRule, is, linksRule, children, childrenRule, typeNo, walked, naming}
 use Rattle.rules.proofs.General.{picked, is-false}
 use Rattle.rules.proofs.Tests.{both-pass, pass-both, holds-unless, unless-holds}
@@ -68,6 +70,13 @@ module _ (rs : List Record) where
   next-from zero h = absurd (omega arith)
   next-from (suc n) h = omega arith
 
+  -- The later children of a record are above it too.
+  pub second-above : (n : ℕ) → 0 < nextOf rs (firstOf rs n) → n < nextOf rs (firstOf rs n)
+  second-above n h = let c = firstOf rs n in omega (arith, next-above c h, first-above n (next-from c h))
+
+  pub third-above : (n : ℕ) → 0 < nextOf rs (nextOf rs (firstOf rs n)) → n < nextOf rs (nextOf rs (firstOf rs n))
+  third-above n h = let s = nextOf rs (firstOf rs n) in omega (arith, next-above s h, second-above n (next-from s h))
+
   pub tree-type : (left n : ℕ) → typeOf (treeOf left rs n) ≡ typeNo rs n
   unfolding treeOf
   tree-type zero n = refl
@@ -101,7 +110,7 @@ module _ (rs : List Record) where
     node-judged (binary₂ k) f Γ l tc ts te c s e x (_, (_, (h, _))) p q (j, y, z) = (j, λ i. y, λ i. z, λ i. absurd (omega arith))
     node-judged (ternary₃ k) f Γ l tc ts te c s e x h p q (j, y, z, w) = (j, λ i. y, λ i. z, λ i. w)
 
-    module _ (formed : (n : ℕ) → 1 ≤ n → n < 1 + length rs → Holds (fieldsRule types (recordNo rs n))) (chained : (n : ℕ) → 1 ≤ n → n < 1 + length rs → Holds (childrenRule rs n)) where
+    module _ (edition : Edition) (formed : (n : ℕ) → 1 ≤ n → n < 1 + length rs → Holds (fieldsRule edition types (recordNo rs n))) (chained : (n : ℕ) → 1 ≤ n → n < 1 + length rs → Holds (childrenRule rs n)) where
       pub walk-typed : (left n : ℕ) (Γ : Env) (l : ℕ) → 0 < n → n ≤ length rs → length rs < n + left → walked left types rs Γ l n ≡ none → Typed types Γ l (treeOf left rs n)
       unfolding walked treeOf
       walk-typed zero n Γ l z b r h = absurd (omega arith)
@@ -119,10 +128,10 @@ module _ (rs : List Record) where
           let (hc, h₄) = both-pass _ _ h₃ in
           let (hs, he) = both-pass _ _ h₄ in
           node-typed k f Γ l (treeOf left rs c) (treeOf left rs s) (treeOf left rs e) c s e (nextOf rs e) (chained n z (omega arith))
-          (formed n z (omega arith) .1, holds-unless _ 10 n h10, holds-unless _ 11 n h11, rw (tree-type, tree-type, tree-type) (holds-unless _ 12 n h12))
+          (formed n z (omega arith) .1, holds-unless _ badIndex n h10, holds-unless _ badLevel n h11, rw (tree-type, tree-type, tree-type) (holds-unless _ badType n h12))
           (λ p. walk-typed left c _ _ p (first-le n) (omega (arith, first-above n p)) hc)
-          (λ p. walk-typed left s _ _ p (next-le c) (omega (arith, next-above c p, first-above n (next-from c p))) hs)
-          (λ p. walk-typed left e _ _ p (next-le s) (omega (arith, next-above s p, next-above c (next-from s p), first-above n (next-from c (next-from s p)))) he)
+          (λ p. walk-typed left s _ _ p (next-le c) (omega (arith, second-above n p)) hs)
+          (λ p. walk-typed left e _ _ p (next-le s) (omega (arith, third-above n p)) he)
 
     module _ (chained : (n : ℕ) → 1 ≤ n → n < 1 + length rs → Holds (childrenRule rs n)) where
       pub typed-walk : (left n : ℕ) (Γ : Env) (l : ℕ) → n ≤ length rs → (0 < n → Typed types Γ l (treeOf left rs n)) → walked left types rs Γ l n ≡ none
@@ -137,10 +146,10 @@ module _ (rs : List Record) where
           let s = nextOf rs c in
           let e = nextOf rs s in
           let ((_, j10, j11, j12), y, z, w) = node-judged k f Γ l (treeOf left rs c) (treeOf left rs s) (treeOf left rs e) c s e (nextOf rs e) (chained n (omega arith) (omega arith)) (next-from c) (next-from s) (h (omega arith)) in
-          pass-both (unless-holds _ 10 n j10) (pass-both (unless-holds _ 11 n j11) (pass-both (unless-holds _ 12 n (rw (tree-type, tree-type, tree-type) at j12))
+          pass-both (unless-holds _ badIndex n j10) (pass-both (unless-holds _ badLevel n j11) (pass-both (unless-holds _ badType n (rw (tree-type, tree-type, tree-type) at j12))
           (pass-both (typed-walk left c _ _ (first-le n) y) (pass-both (typed-walk left s _ _ (next-le c) z) (typed-walk left e _ _ (next-le s) w)))))
 
-  -- The records of the tree: w n counts those that the links reach from record n.
+  -- The records that the links reach from record n, in `left` generations at most.
   reached : ℕ → ℕ → ℕ
   reached zero n = 0
   reached (suc left) zero = 0
@@ -159,32 +168,33 @@ module _ (rs : List Record) where
         steady left (nextOf rs (suc n)) (next-le (suc n)) (λ p. omega (arith, next-above (suc n) p)),
       )
 
-  w : ℕ → ℕ
-  w n = reached (length rs) n
+  -- The records of a chain from record n on: those of its tree and of the trees of the siblings that follow it.
+  pub chainSize : ℕ → ℕ
+  chainSize n = reached (length rs) n
 
-  w-none : w 0 ≡ 0
-  unfolding w reached
-  w-none = go (length rs)
+  pub chain-none : chainSize 0 ≡ 0
+  unfolding chainSize reached
+  chain-none = go (length rs)
     where
       go : (left : ℕ) → reached left 0 ≡ 0
       go zero = refl
       go (suc left) = refl
 
-  w-step : (n : ℕ) → 0 < n → n ≤ length rs → w n ≡ 1 + w (firstOf rs n) + w (nextOf rs n)
-  unfolding w reached
-  w-step zero z b = absurd (omega arith)
-  w-step (suc n) z b = steady (length rs) (suc n) b (λ _. omega arith)
+  pub chain-step : (n : ℕ) → 0 < n → n ≤ length rs → chainSize n ≡ 1 + chainSize (firstOf rs n) + chainSize (nextOf rs n)
+  unfolding chainSize reached
+  chain-step zero z b = absurd (omega arith)
+  chain-step (suc n) z b = steady (length rs) (suc n) b (λ _. omega arith)
 
   node-size : (k : Kind) (f : Fields) (tc ts te : Term) (c s e x : ℕ) → Holds (children k c s e x)
-      → (0 < c → size tc + w s ≡ w c) → (0 < s → size ts + w e ≡ w s) → (0 < e → size te + w x ≡ w e) → size (node k f tc ts te) ≡ 1 + w c
+      → (0 < c → size tc + chainSize s ≡ chainSize c) → (0 < s → size ts + chainSize e ≡ chainSize s) → (0 < e → size te + chainSize x ≡ chainSize e) → size (node k f tc ts te) ≡ 1 + chainSize c
   unfolding size
-  node-size (leaf₀ k) f tc ts te c s e x (h, _) p q r = rw h (omega (arith, w-none))
-  node-size (unary₁ k) f tc ts te c s e x (h, (i, _)) p q r = omega (arith, p h, w-none, ap w i)
-  node-size (binary₂ k) f tc ts te c s e x (h, (i, (j, _))) p q r = omega (arith, p h, q i, w-none, ap w j)
-  node-size (ternary₃ k) f tc ts te c s e x (h, (i, (j, (o, _)))) p q r = omega (arith, p h, q i, r j, w-none, ap w o)
+  node-size (leaf₀ k) f tc ts te c s e x (h, _) p q r = rw h (omega (arith, chain-none))
+  node-size (unary₁ k) f tc ts te c s e x (h, (i, _)) p q r = omega (arith, p h, chain-none, ap chainSize i)
+  node-size (binary₂ k) f tc ts te c s e x (h, (i, (j, _))) p q r = omega (arith, p h, q i, chain-none, ap chainSize j)
+  node-size (ternary₃ k) f tc ts te c s e x (h, (i, (j, (o, _)))) p q r = omega (arith, p h, q i, r j, chain-none, ap chainSize o)
 
   module _ (chained : (n : ℕ) → 1 ≤ n → n < 1 + length rs → Holds (childrenRule rs n)) where
-    tree-size : (left n : ℕ) → 0 < n → n ≤ length rs → length rs < n + left → size (treeOf left rs n) + w (nextOf rs n) ≡ w n
+    pub tree-size : (left n : ℕ) → 0 < n → n ≤ length rs → length rs < n + left → size (treeOf left rs n) + chainSize (nextOf rs n) ≡ chainSize n
     unfolding treeOf
     tree-size zero n z b r = absurd (omega arith)
     tree-size (suc left) zero z b r = absurd (omega arith)
@@ -195,41 +205,41 @@ module _ (rs : List Record) where
         let e = nextOf rs s in
         omega (
           arith,
-          w-step n z b,
+          chain-step n z b,
           node-size (kindOf (recordNo rs n .kind)) (recordNo rs n .fields) (treeOf left rs c) (treeOf left rs s) (treeOf left rs e) c s e (nextOf rs e) (chained n z (omega arith))
               (λ p. tree-size left c p (first-le n) (omega (arith, first-above n p)))
-              (λ p. tree-size left s p (next-le c) (omega (arith, next-above c p, first-above n (next-from c p))))
-              (λ p. tree-size left e p (next-le s) (omega (arith, next-above s p, next-above c (next-from s p), first-above n (next-from c (next-from s p))))),
+              (λ p. tree-size left s p (next-le c) (omega (arith, second-above n p)))
+              (λ p. tree-size left e p (next-le s) (omega (arith, third-above n p))),
         )
 
-    -- Each record but the root is named once, so w summed over the links is w summed over the records but the root.
+    -- Each record but the root is named once, so the chains that the links name have as many records together as those of all records but the root.
     module _ (linked : (n : ℕ) → 1 ≤ n → n < 1 + length rs → Holds (linksRule rs n)) where
       named-once : (m : ℕ) → 1 ≤ m → m < 1 + length rs
-          → total (λ n. is (firstOf rs n) m) 1 (length rs) * w m + total (λ n. is (nextOf rs n) m) 1 (length rs) * w m ≡ pick (eqb m 1) 0 1 * w m
+          → total (λ n. is (firstOf rs n) m) 1 (length rs) * chainSize m + total (λ n. is (nextOf rs n) m) 1 (length rs) * chainSize m ≡ pick (eqb m 1) 0 1 * chainSize m
       named-once m i j =
           let f : ℕ → ℕ = λ n. is (firstOf rs n) m in
           let g : ℕ → ℕ = λ n. is (nextOf rs n) m in
-          sym (add-mul (total f 1 (length rs)) (total g 1 (length rs)) (w m)) ∙ ap (λ x. x * w m) (sym (total-add f g 1 (length rs)) ∙ named-often m (linked m i j .1 .1))
+          sym (add-mul (total f 1 (length rs)) (total g 1 (length rs)) (chainSize m)) ∙ ap (λ x. x * chainSize m) (sym (total-add f g 1 (length rs)) ∙ named-often m (linked m i j .1 .1))
 
-      summed : total w 1 (length rs) ≡ length rs + total (λ m. pick (eqb m 1) 0 1 * w m) 1 (length rs)
+      summed : total chainSize 1 (length rs) ≡ length rs + total (λ m. pick (eqb m 1) 0 1 * chainSize m) 1 (length rs)
       summed =
           let R = length rs in
           omega (
             arith,
-            total-ext w (λ n. 1 + w (firstOf rs n) + w (nextOf rs n)) 1 R (λ n i j. w-step n i (omega arith)),
-            total-add (λ n. 1 + w (firstOf rs n)) (λ n. w (nextOf rs n)) 1 R,
-            total-add (λ n. 1) (λ n. w (firstOf rs n)) 1 R,
+            total-ext chainSize (λ n. 1 + chainSize (firstOf rs n) + chainSize (nextOf rs n)) 1 R (λ n i j. chain-step n i (omega arith)),
+            total-add (λ n. 1 + chainSize (firstOf rs n)) (λ n. chainSize (nextOf rs n)) 1 R,
+            total-add (λ n. 1) (λ n. chainSize (firstOf rs n)) 1 R,
             total-ones 1 R,
-            counted-twice (firstOf rs) w R w-none first-le,
-            counted-twice (nextOf rs) w R w-none next-le,
-            total-add (λ m. total (λ n. is (firstOf rs n) m) 1 R * w m) (λ m. total (λ n. is (nextOf rs n) m) 1 R * w m) 1 R,
-            total-ext (λ m. total (λ n. is (firstOf rs n) m) 1 R * w m + total (λ n. is (nextOf rs n) m) 1 R * w m) (λ m. pick (eqb m 1) 0 1 * w m) 1 R named-once,
+            counted-twice (firstOf rs) chainSize R chain-none first-le,
+            counted-twice (nextOf rs) chainSize R chain-none next-le,
+            total-add (λ m. total (λ n. is (firstOf rs n) m) 1 R * chainSize m) (λ m. total (λ n. is (nextOf rs n) m) 1 R * chainSize m) 1 R,
+            total-ext (λ m. total (λ n. is (firstOf rs n) m) 1 R * chainSize m + total (λ n. is (nextOf rs n) m) 1 R * chainSize m) (λ m. pick (eqb m 1) 0 1 * chainSize m) 1 R named-once,
           )
 
-      but-root : (R : ℕ) → 0 < R → total w 1 R ≡ R + total (λ m. pick (eqb m 1) 0 1 * w m) 1 R → w 1 ≡ R
+      but-root : (R : ℕ) → 0 < R → total chainSize 1 R ≡ R + total (λ m. pick (eqb m 1) 0 1 * chainSize m) 1 R → chainSize 1 ≡ R
       unfolding total
       but-root zero z h = absurd (omega arith)
-      but-root (suc R) z h = omega (arith, total-ext (λ m. pick (eqb m 1) 0 1 * w m) w 2 R (λ m i j. rw (is-false (eqb m 1) (λ t. omega (arith, eqb→eq m 1 t))) (omega arith)))
+      but-root (suc R) z h = omega (arith, total-ext (λ m. pick (eqb m 1) 0 1 * chainSize m) chainSize 2 R (λ m i j. rw (is-false (eqb m 1) (λ t. omega (arith, eqb→eq m 1 t))) (omega arith)))
 
       pub whole-size : 0 < length rs → size (rootTree rs) ≡ length rs
-      whole-size z = omega (arith, tree-size (length rs) 1 (omega arith) z (omega arith), w-none, but-root (length rs) z summed)
+      whole-size z = omega (arith, tree-size (length rs) 1 (omega arith) z (omega arith), chain-none, but-root (length rs) z summed)

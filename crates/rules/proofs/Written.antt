@@ -8,14 +8,15 @@ use mathlib.Core.Logic.{inl}
 use lib.Dec.{T, eqb, eqb→eq}
 use lib.ListN.{length, getD, length-append, length-map}
 use Rattle.rules.specs.Lists.{All, pick}
-use Rattle.rules.specs.Kinds.{number, variable, function, fix, lift, quote, splice, application, matchNumber, matchApplication, matchLift, matchFunction, matchFix, Unary, Ternary, matchVariable, matchShape, Kind, leaf₀, unary₁, binary₂, ternary₃}
+use Rattle.rules.specs.Kinds.{number, variable, function, fix, lift, quote, splice, application, matchNumber, matchApplication, matchLift, matchFunction, matchFix, Unary, Ternary, matchVariable, matchShape, Kind, leaf₀, unary₁, binary₂, ternary₃, match}
 use Rattle.rules.specs.Terms.{Fields, Term, leaf, unary, binary, ternary, size}
+use Rattle.rules.specs.Editions.{Edition, HasEveryKind}
 use Rattle.rules.specs.Binders.{binds₁, binds₃}
 use Rattle.rules.specs.Types.{Table, Entry, noEntry, Nat}
 use Rattle.rules.specs.Conditions.{equal, Holds, same, between}
 use Rattle.rules.specs.FieldUses.{formed}
 use Rattle.rules.specs.Typing.{Env, under, bound, Typed}
-use Rattle.rules.specs.Format.{Record, tableOf}
+use Rattle.rules.specs.Format.{Record, mostTypes, mostRecords, tableOf}
 use Rattle.rules.specs.Links.{linked, laid, written, rootTree, firstTerm}
 use Rattle.rules.specs.Check.{kindRule, entryRule, naming}
 use Rattle.rules.specs.Meets.{MeetsForm, Meets}
@@ -35,14 +36,14 @@ kind-cases {P} n x h nat fn code = go (eqb (x .kind) 1) (eqb (x .kind) 2) (eqb�
     go false true k (p, (q, _)) = fn (k tt) (omega arith) (omega arith)
     go false false k (e, (p, (q, _))) = code e (omega arith) q
 
-kind-fits : (n : ℕ) (x : Entry) → n < 257 → Holds (kindRule n x) → EntryFits x
+kind-fits : (n : ℕ) (x : Entry) → n ≤ mostTypes → Holds (kindRule n x) → EntryFits x
 kind-fits n x b h = kind-cases n x h (λ e. rw e (omega arith)) (λ k p q. omega arith) (λ k p q. omega arith)
 
-entries-fit : (xs types : Table) (m : ℕ) → length types < 257 → ((i : ℕ) → i < length xs → Holds (kindRule (suc (m + i)) (getD xs i noEntry))) → m + length xs ≤ length types → All EntryFits xs
+entries-fit : (xs types : Table) (m : ℕ) → length types ≤ mostTypes → ((i : ℕ) → i < length xs → Holds (kindRule (suc (m + i)) (getD xs i noEntry))) → m + length xs ≤ length types → All EntryFits xs
 entries-fit [] types m b h k = tt
 entries-fit (x ∷ xs) types m b h k = (kind-fits (suc (m + 0)) x (omega arith) (h 0 (omega arith)), entries-fit xs types (suc m) b (λ i j. let e : m + suc i ≡ suc m + i = omega arith in rw e at (h (suc i) (omega arith))) (omega arith))
 
-fields-fit : (types : Table) (Γ : Env) (k : Kind) (f : Fields) → length types < 257 → length Γ ≤ 4096 → Holds (formed types k f) → Holds (bound Γ k f)
+fields-fit : (types : Table) (Γ : Env) (k : Kind) (f : Fields) → length types ≤ mostTypes → length Γ ≤ 4096 → Holds (formed types k f) → Holds (bound Γ k f)
     → (f .type < 65536) × (f .a < 65536) × (f .b < 65536) × (f .value < 4294967296)
 fields-fit types Γ (leaf₀ number) f few low (t, (a, (b, (v, _)))) i = omega arith
 fields-fit types Γ (leaf₀ variable) f few low (t, (a, (b, (v, _)))) (i, _) = omega arith
@@ -52,12 +53,12 @@ fields-fit types Γ (unary₁ lift) f few low (t, (a, (b, (v, _)))) i = omega ar
 fields-fit types Γ (unary₁ quote) f few low (t, (a, (b, (v, _)))) i = omega arith
 fields-fit types Γ (unary₁ splice) f few low (t, (a, (b, (v, _)))) i = omega arith
 fields-fit types Γ (binary₂ application) f few low (t, (a, (b, (v, _)))) i = omega arith
-fields-fit types Γ (ternary₃ matchVariable) f few low (t, (a, (b, (v, _)))) (i, _) = omega arith
-fields-fit types Γ (ternary₃ (matchShape matchNumber)) f few low (t, (a, (b, (v, _)))) i = omega arith
-fields-fit types Γ (ternary₃ (matchShape matchApplication)) f few low (t, (a, (b, (v, _)))) i = omega arith
-fields-fit types Γ (ternary₃ (matchShape matchLift)) f few low (t, (a, (b, (v, _)))) i = omega arith
-fields-fit types Γ (ternary₃ (matchShape matchFunction)) f few low (t, (a, (b, (v, _)))) i = omega arith
-fields-fit types Γ (ternary₃ (matchShape matchFix)) f few low (t, (a, (b, (v, _)))) i = omega arith
+fields-fit types Γ (ternary₃ (match matchVariable)) f few low (t, (a, (b, (v, _)))) (i, _) = omega arith
+fields-fit types Γ (ternary₃ (match (matchShape matchNumber))) f few low (t, (a, (b, (v, _)))) i = omega arith
+fields-fit types Γ (ternary₃ (match (matchShape matchApplication))) f few low (t, (a, (b, (v, _)))) i = omega arith
+fields-fit types Γ (ternary₃ (match (matchShape matchLift))) f few low (t, (a, (b, (v, _)))) i = omega arith
+fields-fit types Γ (ternary₃ (match (matchShape matchFunction))) f few low (t, (a, (b, (v, _)))) i = omega arith
+fields-fit types Γ (ternary₃ (match (matchShape matchFix))) f few low (t, (a, (b, (v, _)))) i = omega arith
 
 -- A node binds one variable at most in its only child, and two in a match's success branch.
 pub binds-one : (k : Unary) (f : Fields) → length (binds₁ k f) ≤ 1
@@ -68,17 +69,17 @@ binds-one quote f = omega arith
 binds-one splice f = omega arith
 
 pub binds-two : (k : Ternary) (f : Fields) → length (binds₃ k f) ≤ 2
-binds-two matchVariable f = omega arith
-binds-two (matchShape matchNumber) f = omega arith
-binds-two (matchShape matchApplication) f = omega arith
-binds-two (matchShape matchLift) f = omega arith
-binds-two (matchShape matchFunction) f = omega arith
-binds-two (matchShape matchFix) f = omega arith
+binds-two (match matchVariable) f = omega arith
+binds-two (match (matchShape matchNumber)) f = omega arith
+binds-two (match (matchShape matchApplication)) f = omega arith
+binds-two (match (matchShape matchLift)) f = omega arith
+binds-two (match (matchShape matchFunction)) f = omega arith
+binds-two (match (matchShape matchFix)) f = omega arith
 
 pub under-length : (l : ℕ) (ns : List ℕ) (Γ : Env) → length (under l ns Γ) ≡ length ns + length Γ
 under-length l ns Γ = rw (length-append, length-map)
 
-module _ (types : Table) (few : length types < 257) where
+module _ (types : Table) (few : length types ≤ mostTypes) where
   node-fits : (Γ : Env) (k : Kind) (f : Fields) (first next : ℕ) → length Γ ≤ 4096 → first < 65536 → next < 65536 → Holds (formed types k f) → Holds (bound Γ k f) → RecordFits (linked k f first next)
   node-fits Γ k f first next low p q o i =
       let (t, a, b, v) = fields-fit types Γ k f few low o i in
@@ -106,12 +107,12 @@ module _ (types : Table) (few : length types < 257) where
 -- A table of 1 to 256 good entries.
 pub record GoodTable (types : Table) : Type 0 where
   pub some : 0 < length types
-  pub few : length types < 257
+  pub few : length types ≤ mostTypes
   pub entries : (n : ℕ) → 1 ≤ n → n < 1 + length types → Holds (entryRule types n)
 
 -- The table of a passed program is one.
-pub passed-table : (program : List ℕ) → Meets program → GoodTable (tableOf program)
-passed-table program m = let T = types-counted program in record { some = omega (arith, m .counts .0); few = omega (arith, m .counts .0); entries = m .form .entries }
+pub passed-table : (edition : Edition) (program : List ℕ) → Meets edition program → GoodTable (tableOf program)
+passed-table edition program m = let T = types-counted program in record { some = omega (arith, m .counts .0); few = omega (arith, m .counts .0); entries = m .form .entries }
 
 once-named : (rs : List Record) (m : ℕ) → naming rs m ≡ pick (eqb m 1) 0 1 → Holds (pick (eqb m 1) [] (equal (naming rs m) 1 ∷ []))
 once-named rs m h = go (eqb m 1) h
@@ -121,7 +122,7 @@ once-named rs m h = go (eqb m 1) h
     go false h = (h, tt)
 
 -- Written and checked again.
-module _ (types : Table) (t : Term) (table : GoodTable types) (typed : Typed types [] 0 t) (small : size t ≤ 2048) where
+module _ (types : Table) (t : Term) (table : GoodTable types) (typed : Typed types [] 0 t) (small : size t ≤ mostRecords) where
   abbrev rs : List Record
   rs = laid 1 0 t
 
@@ -131,10 +132,10 @@ module _ (types : Table) (t : Term) (table : GoodTable types) (typed : Typed typ
   root-back : rootTree rs ≡ t
   root-back = tree-back rs (length rs) t 1 0 (omega arith) (omega (arith, length-laid 1 0 t)) laid-whole
 
-  records-meet : MeetsForm types rs
-  records-meet =
+  records-meet : (edition : Edition) → HasEveryKind edition → MeetsForm edition types rs
+  records-meet edition all =
       let R : length rs ≡ size t = length-laid 1 0 t in
-      let good = each-good rs types t 1 0 [] 0 laid-whole typed in
+      let good = each-good rs edition all types t 1 0 [] 0 laid-whole typed in
       record {
         entries = table .entries;
         fielded = λ m a b. good m a (omega arith) .fielded;
@@ -148,15 +149,19 @@ module _ (types : Table) (t : Term) (table : GoodTable types) (typed : Typed typ
       (entries-fit types types 0 (table .few) (λ i h. let e : 0 + i ≡ i = omega arith in rw e (table .entries (suc i) (omega arith) (omega arith) .1)) (omega arith))
       (laid-fits types (table .few) t 1 0 [] 0 typed (omega arith) (omega arith) (omega arith))
 
-  pub written-meets : Meets (written types t)
-  written-meets = record {
+  pub written-meets : (edition : Edition) → HasEveryKind edition → Meets edition (written types t)
+  written-meets edition all = record {
     counts = rw (back .typeCount-back, back .recordCount-back, length-laid) (omega (arith, size-some t));
     exact = rw (back .typeCount-back, back .recordCount-back) (back .length-back);
-    form = rw (back .table-back, back .records-back) records-meet;
+    form = rw (back .table-back, back .records-back) (records-meet edition all);
   }
 
   pub read-back : firstTerm (written types t) ≡ t
   read-back = rw (back .records-back) root-back
 
-  pub term-passed : Passed types t
-  term-passed = rw read-back at (check-answers (written types t) written-meets)
+  pub term-passed : (edition : Edition) → HasEveryKind edition → Passed edition types t
+  term-passed edition all = record {
+    checked = rw read-back at (check-answers edition (written types t) (written-meets edition all));
+    table-back = back .table-back;
+    term-back = read-back;
+  }

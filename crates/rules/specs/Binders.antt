@@ -2,7 +2,7 @@
 -- kind 11 binds two there, a then b, so b is index 0 and a is index 1. An index counts binders outward from 0."
 use Prim.Native.Nat.{ℕ}
 use mathlib.Core.List.{List, [], _∷_}
-use Rattle.rules.specs.Kinds.{Unary, function, fix, lift, quote, splice, Ternary, matchVariable, matchShape, matchNumber, matchApplication, matchLift, matchFunction, matchFix, Kind, leaf₀, unary₁, binary₂, ternary₃}
+use Rattle.rules.specs.Kinds.{Unary, function, fix, lift, quote, splice, Ternary, matchVariable, matchShape, matchNumber, matchApplication, matchLift, matchFunction, matchFix, Kind, leaf₀, unary₁, binary₂, ternary₃, match}
 use Rattle.rules.specs.Terms.{Fields, onlyType}
 use lib.ListN.{length}
 
@@ -15,12 +15,12 @@ binds₁ quote f = []
 binds₁ splice f = []
 
 abbrev pub binds₃ : Ternary → Fields → List ℕ
-binds₃ matchVariable f = []
-binds₃ (matchShape matchNumber) f = []
-binds₃ (matchShape matchApplication) f = f .b ∷ f .a ∷ []
-binds₃ (matchShape matchLift) f = f .a ∷ []
-binds₃ (matchShape matchFunction) f = f .a ∷ []
-binds₃ (matchShape matchFix) f = f .a ∷ []
+binds₃ (match matchVariable) f = []
+binds₃ (match (matchShape matchNumber)) f = []
+binds₃ (match (matchShape matchApplication)) f = f .b ∷ f .a ∷ []
+binds₃ (match (matchShape matchLift)) f = f .a ∷ []
+binds₃ (match (matchShape matchFunction)) f = f .a ∷ []
+binds₃ (match (matchShape matchFix)) f = f .a ∷ []
 
 -- The same for every kind: over its first child, and over its second, which is a match's success. Nothing is bound over a third.
 abbrev pub overFirst : Kind → Fields → List ℕ

@@ -5,19 +5,20 @@ use mathlib.Core.Option.{Option, none, some}
 use lib.ListN.{length}
 use lib.Dec.{eqb}
 use Rattle.rules.specs.Lists.{pick, total}
-use Rattle.rules.specs.Kinds.{Kind, leaf₀, unary₁, binary₂, ternary₃, lastKind, kindOf}
+use Rattle.rules.specs.Kinds.{Kind, leaf₀, unary₁, binary₂, ternary₃, kindOf}
+use Rattle.rules.specs.Editions.{Edition}
 use Rattle.rules.specs.Binders.{overFirst, overSecond}
 use Rattle.rules.specs.Types.{Entry, Table, entry, Nat}
 use Rattle.rules.specs.Conditions.{below, equal, between, same, sameEntry, atLeast, Rule}
 use Rattle.rules.specs.FieldUses.{formed}
 use Rattle.rules.specs.Typing.{Env, under, firstLevel, bound, placed, typed}
-use Rattle.rules.specs.Format.{Record, typeCount, recordCount, tableOf, recordsOf, recordNo}
+use Rattle.rules.specs.Format.{Record, mostTypes, mostRecords, typeCount, recordCount, tableOf, recordsOf, recordNo}
 use Rattle.rules.specs.Links.{firstOf, nextOf}
 use Rattle.rules.specs.Refusals.{Refusal, programShort, badCounts, badLength, badEntry, badField, badLink, badChildren, badIndex, badLevel, badType, unless, _then_, lowest}
 
 -- 4: "T type entries (1 to 256) and R records (1 to 2,048)".
 abbrev pub countsRule : ℕ → ℕ → Rule
-countsRule T R = between 1 T 256 ∷ between 1 R 2048 ∷ []
+countsRule T R = between 1 T mostTypes ∷ between 1 R mostRecords ∷ []
 
 -- 6: "Kind 1 is Nat (a = b = 0). Kind 2 is Fn(a,b) .. Kind 3 is Code(a), with b = 0. Parts are numbers of earlier entries, counted from 1. No
 -- entry is like an earlier one." n is the entry's number.
@@ -33,11 +34,12 @@ alike types n = total (λ m. pick (sameEntry (entry types m) (entry types n)) 1 
 abbrev pub entryRule : Table → ℕ → Rule
 entryRule types n = equal (alike types n) 0 ∷ kindRule n (entry types n)
 
--- 7: the kind is known, and its fields are good.
-abbrev pub fieldsRule : Table → Record → Rule
-fieldsRule types r = between 1 (r .kind) lastKind ∷ formed types (kindOf (r .kind)) (r .fields)
+-- 7: the kind is one of the edition's, and its fields are good.
+abbrev pub fieldsRule : Edition → Table → Record → Rule
+fieldsRule edition types r = between 1 (r .kind) (edition .lastKind) ∷ formed types (kindOf (r .kind)) (r .fields)
 
--- 8: "record that holds a bad link; record other than the root not named exactly once". A link is bad that doesn't name what it says.
+-- 8: "record that holds a bad link; record other than the root not named exactly once". A link is good that names its own number, or is 0 and
+-- names nothing: so are just those that are 0, or above their record's number and at most R (theorem `good-link`).
 abbrev pub is : ℕ → ℕ → ℕ
 is m n = pick (eqb m n) 1 0
 
@@ -67,7 +69,10 @@ abbrev pub typeNo : List Record → ℕ → ℕ
 typeNo rs n = recordNo rs n .fields .type
 
 -- 10 to 12: "the first faulty record in preorder is named, with its lowest number of 10 to 12", in the tree of record n at level l under Γ.
--- "Preorder is a record, then its children's trees in chain order." 0 is no record; `left` falls from R.
+-- "Preorder is a record, then its children's trees in chain order": c, s and e are its children, a match's code, success and failure; 0 is no
+-- record, and has no tree. Only a match binds variables over its second child, its success, and "kinds 12 to 14 bind one level-0 variable", kind
+-- 11 two: so that child is walked under binders of level 0. `left` bounds the generations: links go up, so that
+-- R are all (theorem `all-generations`).
 unfoldable pub walked : ℕ → Table → List Record → Env → ℕ → ℕ → Option Refusal
 walked zero types rs Γ l n = none
 walked (suc left) types rs Γ l zero = none
@@ -86,37 +91,40 @@ walked (suc left) types rs Γ l (suc m) =
     then walked left types rs Γ l e
 
 -- 6 to 12, of a table and records. "The root stands at level 0 under no binders."
-unfoldable pub refusalOf : Table → List Record → Option Refusal
-refusalOf types rs =
+unfoldable pub refusalOf : Edition → Table → List Record → Option Refusal
+refusalOf edition types rs =
     lowest (entryRule types) badEntry 1 (length types)
-    then lowest (λ n. fieldsRule types (recordNo rs n)) badField 1 (length rs)
+    then lowest (λ n. fieldsRule edition types (recordNo rs n)) badField 1 (length rs)
     then lowest (linksRule rs) badLink 1 (length rs)
     then lowest (childrenRule rs) badChildren 1 (length rs)
     then walked (length rs) types rs [] 0 1
 
--- 3 to 12, of a program; `none` where it is passed.
-unfoldable pub refusal : List ℕ → Option Refusal
-refusal bytes =
+-- 3 to 12, of a program of the edition; `none` where it is passed.
+unfoldable pub refusal : Edition → List ℕ → Option Refusal
+refusal edition bytes =
     let T = typeCount bytes in
     let R = recordCount bytes in
     unless (atLeast 4 (length bytes) ∷ []) programShort 0
     then unless (countsRule T R) badCounts 0
     then unless (equal (length bytes) (4 + 6 * T + 16 * R) ∷ []) badLength 0
-    then refusalOf (tableOf bytes) (recordsOf bytes)
+    then refusalOf edition (tableOf bytes) (recordsOf bytes)
 
 -- "Check takes a program and returns the root's type and R." "Every accepted answer has number and place 0." "A refusal returns number and
 -- place, its other fields 0."
 pub record CheckAnswer : Type 0 where
   pub number : ℕ
   pub place : ℕ
-  pub type : ℕ
+  pub rootType : ℕ
   pub records : ℕ
 
 abbrev pub passing : ℕ → ℕ → CheckAnswer
-passing type records = record { number = 0; place = 0; type = type; records = records }
+passing rootType records = record { number = 0; place = 0; rootType = rootType; records = records }
 
-unfoldable pub checkAnswer : List ℕ → CheckAnswer
-checkAnswer bytes = elim (refusal bytes) [
+abbrev pub failing : ℕ → ℕ → CheckAnswer
+failing number place = record { number = number; place = place; rootType = 0; records = 0 }
+
+unfoldable pub checkAnswer : Edition → List ℕ → CheckAnswer
+checkAnswer edition bytes = elim (refusal edition bytes) [
   | none ↦ passing (typeNo (recordsOf bytes) 1) (recordCount bytes)
-  | some r ↦ record { number = r .number; place = r .place; type = 0; records = 0 }
+  | some r ↦ failing (r .number) (r .place)
 ]

@@ -3,7 +3,7 @@
 use Prim.Native.Nat.{ℕ}
 use mathlib.Core.List.{[], _∷_}
 use lib.ListN.{length}
-use Rattle.rules.specs.Kinds.{number, variable, function, fix, lift, quote, splice, application, matchNumber, matchApplication, matchLift, matchFunction, matchFix, matchVariable, matchShape, Kind, leaf₀, unary₁, binary₂, ternary₃}
+use Rattle.rules.specs.Kinds.{number, variable, function, fix, lift, quote, splice, application, matchNumber, matchApplication, matchLift, matchFunction, matchFix, matchVariable, matchShape, Kind, leaf₀, unary₁, binary₂, ternary₃, match}
 use Rattle.rules.specs.Terms.{Fields}
 use Rattle.rules.specs.Types.{Table}
 use Rattle.rules.specs.Conditions.{Condition, anything, below, equal, between, Rule}
@@ -54,12 +54,12 @@ uses (unary₁ fix) = usesNone
 uses (unary₁ lift) = usesNone
 uses (unary₁ quote) = usesNone
 uses (unary₁ splice) = usesNone
-uses (ternary₃ (matchShape matchNumber)) = usesValue
-uses (ternary₃ matchVariable) = usesA anIndex
-uses (ternary₃ (matchShape matchApplication)) = record { a = aType; b = aType; value = unused }
-uses (ternary₃ (matchShape matchLift)) = usesA aType
-uses (ternary₃ (matchShape matchFunction)) = usesA aType
-uses (ternary₃ (matchShape matchFix)) = usesA aType
+uses (ternary₃ (match (matchShape matchNumber))) = usesValue
+uses (ternary₃ (match matchVariable)) = usesA anIndex
+uses (ternary₃ (match (matchShape matchApplication))) = record { a = aType; b = aType; value = unused }
+uses (ternary₃ (match (matchShape matchLift))) = usesA aType
+uses (ternary₃ (match (matchShape matchFunction))) = usesA aType
+uses (ternary₃ (match (matchShape matchFix))) = usesA aType
 
 -- The fields of a record of kind k are good.
 abbrev pub formed : Table → Kind → Fields → Rule

@@ -32,7 +32,13 @@ recordOf bytes = record {
   next = u16 bytes 10;
 }
 
--- "Two 16-bit counts come first: T type entries .. and R records. .. T entries of 6 bytes and R records of 16 bytes follow."
+-- "Two 16-bit counts come first: T type entries (1 to 256) and R records (1 to 2,048). T entries of 6 bytes and R records of 16 bytes follow."
+abbrev pub mostTypes : ℕ
+mostTypes = 256
+
+abbrev pub mostRecords : ℕ
+mostRecords = 2048
+
 abbrev pub typeCount : List ℕ → ℕ
 typeCount bytes = u16 bytes 0
 

@@ -4,7 +4,7 @@ use mathlib.Core.List.{List, [], _∷_}
 use lib.Dec.{eqb}
 use Rattle.rules.specs.Lists.{pick}
 
--- The kinds by their number of children: 0, 1, 2 and 3. Those with 3 are the matches; of these, match variable alone has an index.
+-- The kinds by their number of children: 0, 1, 2 and 3. Those with 3 are matches so far; of these, match variable alone has an index.
 pub data Leaf : Type 0 where
   number variable : Leaf
 
@@ -17,9 +17,12 @@ pub data Binary : Type 0 where
 pub data Shape : Type 0 where
   matchNumber matchApplication matchLift matchFunction matchFix : Shape
 
+pub data Match : Type 0 where
+  matchVariable : Match
+  matchShape : Shape → Match
+
 pub data Ternary : Type 0 where
-  matchVariable : Ternary
-  matchShape : Shape → Ternary
+  match : Match → Ternary
 
 pub data Kind : Type 0 where
   leaf₀ : Leaf → Kind
@@ -44,16 +47,16 @@ kindNumber (unary₁ fix) = 5
 kindNumber (unary₁ lift) = 6
 kindNumber (unary₁ quote) = 7
 kindNumber (unary₁ splice) = 8
-kindNumber (ternary₃ (matchShape matchNumber)) = 9
-kindNumber (ternary₃ matchVariable) = 10
-kindNumber (ternary₃ (matchShape matchApplication)) = 11
-kindNumber (ternary₃ (matchShape matchLift)) = 12
-kindNumber (ternary₃ (matchShape matchFunction)) = 13
-kindNumber (ternary₃ (matchShape matchFix)) = 14
+kindNumber (ternary₃ (match (matchShape matchNumber))) = 9
+kindNumber (ternary₃ (match matchVariable)) = 10
+kindNumber (ternary₃ (match (matchShape matchApplication))) = 11
+kindNumber (ternary₃ (match (matchShape matchLift))) = 12
+kindNumber (ternary₃ (match (matchShape matchFunction))) = 13
+kindNumber (ternary₃ (match (matchShape matchFix))) = 14
 
--- The kinds are numbered from 1 to this one.
-abbrev pub lastKind : ℕ
-lastKind = 14
+-- The table's numbers go from 1 to this one. Which of them a program may use is its edition's.
+abbrev pub highestKind : ℕ
+highestKind = 14
 
 -- Every kind, once.
 abbrev pub kinds : List Kind
@@ -66,12 +69,12 @@ kinds =
     ∷ unary₁ lift
     ∷ unary₁ quote
     ∷ unary₁ splice
-    ∷ ternary₃ (matchShape matchNumber)
-    ∷ ternary₃ matchVariable
-    ∷ ternary₃ (matchShape matchApplication)
-    ∷ ternary₃ (matchShape matchLift)
-    ∷ ternary₃ (matchShape matchFunction)
-    ∷ ternary₃ (matchShape matchFix)
+    ∷ ternary₃ (match (matchShape matchNumber))
+    ∷ ternary₃ (match matchVariable)
+    ∷ ternary₃ (match (matchShape matchApplication))
+    ∷ ternary₃ (match (matchShape matchLift))
+    ∷ ternary₃ (match (matchShape matchFunction))
+    ∷ ternary₃ (match (matchShape matchFix))
     ∷ []
 
 -- The kind that has number n by the table. A number that no kind has is refused by 7; what stands for it here is of no account.

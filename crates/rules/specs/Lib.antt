@@ -1,22 +1,36 @@
--- Document 01 as definitions, in the paper's order. Definitions only: what is true of them stands in proofs/.
+-- Document 01 as definitions, about in the paper's order. Definitions only: what is true of them stands in proofs/.
+-- Words of our own: lists; rules as lists of conditions.
 pub mod Lists
-pub mod Kinds
-pub mod Terms
-pub mod Binders
-pub mod Indices
-pub mod Types
 pub mod Conditions
-pub mod FieldUses
-pub mod Typing
-pub mod Steps
-pub mod Next
+-- "The program form": kinds, entries, records, links; which kinds and fields a program may use.
+pub mod Kinds
+pub mod Editions
+pub mod Types
+pub mod Terms
 pub mod Format
 pub mod Links
+pub mod FieldUses
+-- "Levels and types".
+pub mod Binders
+pub mod Typing
+-- "Steps".
+pub mod Values
+pub mod Indices
+pub mod Matching
+pub mod Sought
+pub mod Contractions
+pub mod Steps
+pub mod Next
+-- "Check and run", and demand 3.
 pub mod Refusals
 pub mod Check
 pub mod Meets
 pub mod Run
 pub mod WholeRun
+pub mod SmallInputs
+-- "Bench sheet", "Slips at the binder", and the limits of the counts.
 pub mod BenchSheet
 pub mod Slips
-pub mod SmallInputs
+pub mod Limits
+-- What the code of this crate hands on by value.
+pub mod Meant

@@ -1,5 +1,5 @@
 -- Refusals: the numbers of document 01's table, and how checks follow one another.
-use Prim.Native.Nat.{ℕ, zero, suc}
+use Prim.Native.Nat.{ℕ, zero, suc, _≤_}
 use mathlib.Core.Option.{Option, none, some}
 use Rattle.rules.specs.Lists.{pick}
 use Rattle.rules.specs.Conditions.{Rule, holds}
@@ -46,6 +46,10 @@ badLevel = 11
 
 abbrev pub badType : ℕ
 badType = 12
+
+-- A refusal is one of these twelve (theorem `one-of-twelve`).
+abbrev pub OneOfTwelve : Refusal → Type 0
+OneOfTwelve r = (outputShort ≤ r .number) × (r .number ≤ badType)
 
 -- Refused by number n at the place, unless the rule holds.
 unfoldable pub unless : Rule → ℕ → ℕ → Option Refusal

@@ -5,12 +5,14 @@ use mathlib.Core.Bool.{true, false}
 use mathlib.Core.Option.{Option, none, some}
 use lib.ListN.{length, drop}
 use lib.Dec.{ltb}
+use Rattle.rules.specs.Editions.{Edition}
 use Rattle.rules.specs.Terms.{Term, size, typeOf}
 use Rattle.rules.specs.Types.{Table}
 use Rattle.rules.specs.Conditions.{atLeast}
-use Rattle.rules.specs.Steps.{value}
+use Rattle.rules.specs.Values.{value}
+use Rattle.rules.specs.Steps.{Event}
 use Rattle.rules.specs.Next.{next}
-use Rattle.rules.specs.Format.{tableOf}
+use Rattle.rules.specs.Format.{mostRecords, tableOf}
 use Rattle.rules.specs.Links.{firstTerm, written}
 use Rattle.rules.specs.Refusals.{Refusal, outputShort, workShort, unless, _then_}
 use Rattle.rules.specs.Check.{refusal}
@@ -24,68 +26,101 @@ endingNumber valued = 1
 endingNumber spent = 2
 endingNumber full = 3
 
+-- The course of a run: how it ends, the events of its steps in order, and its last term.
+pub record Course : Type 0 where
+  pub ending : Ending
+  pub trace : List Event
+  pub last : Term
+
+abbrev pub ended : Ending → Term → Course
+ended e t = record { ending = e; trace = []; last = t }
+
+abbrev pub afterStep : Event → Course → Course
+afterStep e c = record { ending = c .ending; trace = e ∷ c .trace; last = c .last }
+
+-- "A run makes steps until a value, spent fuel or a full table. With n steps made: ending value if the term is a value; else spent if n is the
+-- fuel; else full, when the next term has more than 2,048 records." (A term that is no value and has no next one comes of no passed program.)
+unfoldable pub course : Table → ℕ → Term → Course
+course types zero t = elim (value t) [ true ↦ ended valued t | false ↦ ended spent t ]
+course types (suc fuel) t = elim (value t) [
+  | true ↦ ended valued t
+  | false ↦ elim (next types 0 t) [
+    | none ↦ ended spent t
+    | some m ↦ elim (ltb mostRecords (size (m .term))) [ true ↦ ended full t | false ↦ afterStep (m .event) (course types fuel (m .term)) ]
+  ]
+]
+
+-- What of its course a run is asked for: the steps are as many as the events.
 pub record Outcome : Type 0 where
   pub ending : Ending
   pub steps : ℕ
   pub last : Term
 
-abbrev pub ended : Ending → Term → Outcome
-ended e t = record { ending = e; steps = 0; last = t }
+abbrev pub outcomeOf : Course → Outcome
+outcomeOf c = record { ending = c .ending; steps = length (c .trace); last = c .last }
 
 abbrev pub oneMore : Outcome → Outcome
 oneMore o = record { ending = o .ending; steps = suc (o .steps); last = o .last }
 
--- The records that a full table holds.
-abbrev pub mostRecords : ℕ
-mostRecords = 2048
+abbrev pub run : Table → ℕ → Term → Outcome
+run types fuel t = outcomeOf (course types fuel t)
 
--- "A run makes steps until a value, spent fuel or a full table. With n steps made: ending value if the term is a value; else spent if n is the
--- fuel; else full, when the next term has more than 2,048 records." (A term that is no value and has no next one comes of no passed program.)
-unfoldable pub run : Table → ℕ → Term → Outcome
-run types zero t = elim (value t) [ true ↦ ended valued t | false ↦ ended spent t ]
-run types (suc fuel) t = elim (value t) [
-  | true ↦ ended valued t
-  | false ↦ elim (next types 0 t) [
-    | none ↦ ended spent t
-    | some u ↦ elim (ltb mostRecords (size u)) [ true ↦ ended full t | false ↦ oneMore (run types fuel u) ]
-  ]
-]
+-- The run of a program, from its first term.
+abbrev pub programCourse : List ℕ → ℕ → Course
+programCourse program fuel = course (tableOf program) fuel (firstTerm program)
 
-abbrev pub outcome : List ℕ → ℕ → Outcome
-outcome program fuel = run (tableOf program) fuel (firstTerm program)
+-- "It writes the same type table and the last term": what a run under this table that ends with t writes.
+abbrev pub output : Table → Term → List ℕ
+output types t = written types t
 
--- "It writes the same type table and the last term."
-abbrev pub result : List ℕ → ℕ → List ℕ
-result program fuel = written (tableOf program) (outcome program fuel .last)
+-- "Output beyond that length is unchanged": a buffer after these bytes were written to it.
+abbrev pub writtenOver : List ℕ → List ℕ → List ℕ
+writtenOver buffer bytes = bytes ++ drop (length bytes) buffer
 
 -- 1 and 2, of the output and work buffers' lengths, then check's.
-abbrev pub runRefusal : List ℕ → ℕ → ℕ → Option Refusal
-runRefusal program outLength workLength = unless (atLeast 34308 outLength ∷ []) outputShort 0 then unless (atLeast 65536 workLength ∷ []) workShort 0 then refusal program
+abbrev pub outputNeeded : ℕ
+outputNeeded = 34308
 
--- "An accepted run returns ending, n, root type and written length. Every accepted answer has number and place 0." "A refusal returns number
--- and place, its other fields 0."
+abbrev pub workNeeded : ℕ
+workNeeded = 65536
+
+abbrev pub runRefusal : Edition → List ℕ → ℕ → ℕ → Option Refusal
+runRefusal edition program outLength workLength =
+    unless (atLeast outputNeeded outLength ∷ []) outputShort 0 then unless (atLeast workNeeded workLength ∷ []) workShort 0 then refusal edition program
+
+-- What a run answers.
 pub record RunAnswer : Type 0 where
   pub number : ℕ
   pub place : ℕ
   pub ending : ℕ
   pub steps : ℕ
-  pub type : ℕ
+  pub rootType : ℕ
   pub written : ℕ
 
-abbrev pub refused : ℕ → ℕ → RunAnswer
-refused number place = record { number = number; place = place; ending = 0; steps = 0; type = 0; written = 0 }
+-- "An accepted run returns ending, n, root type and written length. Every accepted answer has number and place 0."
+abbrev pub accepted : Table → Course → RunAnswer
+accepted types c = record {
+  number = 0;
+  place = 0;
+  ending = endingNumber (c .ending);
+  steps = length (c .trace);
+  rootType = typeOf (c .last);
+  written = length (output types (c .last));
+}
 
-unfoldable pub runAnswer : List ℕ → ℕ → ℕ → ℕ → RunAnswer
-runAnswer program fuel outLength workLength = elim (runRefusal program outLength workLength) [
-  | none ↦
-      let o = outcome program fuel in
-      record { number = 0; place = 0; ending = endingNumber (o .ending); steps = o .steps; type = typeOf (o .last); written = length (result program fuel) }
+-- "A refusal returns number and place, its other fields 0."
+abbrev pub refused : ℕ → ℕ → RunAnswer
+refused number place = record { number = number; place = place; ending = 0; steps = 0; rootType = 0; written = 0 }
+
+unfoldable pub runAnswer : Edition → List ℕ → ℕ → ℕ → ℕ → RunAnswer
+runAnswer edition program fuel outLength workLength = elim (runRefusal edition program outLength workLength) [
+  | none ↦ accepted (tableOf program) (programCourse program fuel)
   | some r ↦ refused (r .number) (r .place)
 ]
 
--- The output buffer after the call. "Output beyond that length is unchanged"; of a refused call "buffers are untouched".
-unfoldable pub runOutput : List ℕ → ℕ → List ℕ → ℕ → List ℕ
-runOutput program fuel out workLength = elim (runRefusal program (length out) workLength) [
-  | none ↦ result program fuel ++ drop (length (result program fuel)) out
+-- The output buffer after the call; of a refused call "buffers are untouched".
+unfoldable pub runOutput : Edition → List ℕ → ℕ → List ℕ → ℕ → List ℕ
+runOutput edition program fuel out workLength = elim (runRefusal edition program (length out) workLength) [
+  | none ↦ writtenOver out (output (tableOf program) (programCourse program fuel .last))
   | some r ↦ out
 ]

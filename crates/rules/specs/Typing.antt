@@ -2,7 +2,7 @@
 use Prim.Native.Nat.{ℕ}
 use mathlib.Core.List.{List, [], _∷_, _++_, map}
 use lib.ListN.{length, getD}
-use Rattle.rules.specs.Kinds.{number, variable, Unary, function, fix, lift, quote, splice, Binary, application, Shape, matchNumber, matchApplication, matchLift, matchFunction, matchFix, Ternary, matchVariable, matchShape, Kind, leaf₀, unary₁, binary₂, ternary₃}
+use Rattle.rules.specs.Kinds.{number, variable, Unary, function, fix, lift, quote, splice, Binary, application, Shape, matchNumber, matchApplication, matchLift, matchFunction, matchFix, Match, matchVariable, matchShape, match, Kind, leaf₀, unary₁, binary₂, ternary₃}
 use Rattle.rules.specs.Terms.{Fields, Term, leaf, unary, binary, ternary, typeOf}
 use Rattle.rules.specs.Binders.{binds₁, binds₃}
 use Rattle.rules.specs.Types.{Table, entry, Nat, Fn, Code, partA, partB}
@@ -48,8 +48,8 @@ bound Γ (leaf₀ number) f = []
 bound Γ (leaf₀ variable) f = below (f .a) (length Γ) ∷ []
 bound Γ (unary₁ k) f = []
 bound Γ (binary₂ k) f = []
-bound Γ (ternary₃ matchVariable) f = below (f .a) (length Γ) ∷ []
-bound Γ (ternary₃ (matchShape k)) f = []
+bound Γ (ternary₃ (match matchVariable)) f = below (f .a) (length Γ) ∷ []
+bound Γ (ternary₃ (match (matchShape k))) f = []
 
 -- 11: the kind stands at a level where it may. "6, level 0 only", "7, level 0 only", "8, level 1 only", "9 to 14, level 0 only".
 pub data Levels : Type 0 where
@@ -63,7 +63,7 @@ levels (unary₁ lift) = onlyZero
 levels (unary₁ quote) = onlyZero
 levels (unary₁ splice) = onlyOne
 levels (binary₂ k) = anyLevel
-levels (ternary₃ k) = onlyZero
+levels (ternary₃ (match k)) = onlyZero
 
 abbrev pub standing : ℕ → Levels → Rule
 standing l anyLevel = []
@@ -76,8 +76,8 @@ placed Γ l (leaf₀ number) f = []
 placed Γ l (leaf₀ variable) f = equal (binder Γ (f .a) .level) l ∷ []
 placed Γ l (unary₁ k) f = standing l (levels (unary₁ k))
 placed Γ l (binary₂ k) f = standing l (levels (binary₂ k))
-placed Γ l (ternary₃ matchVariable) f = equal l 0 ∷ equal (binder Γ (f .a) .level) 1 ∷ []
-placed Γ l (ternary₃ (matchShape k)) f = standing l (levels (ternary₃ (matchShape k)))
+placed Γ l (ternary₃ (match matchVariable)) f = equal l 0 ∷ equal (binder Γ (f .a) .level) 1 ∷ []
+placed Γ l (ternary₃ (match (matchShape k))) f = standing l (levels (ternary₃ (match (matchShape k))))
 
 -- 12: the type rules. In them f .type is the record's type, r; x, y and z are its children's written types, in chain order.
 -- "3: r = Fn(a, body)." "5: child Fn(r,r)." "6: child Nat, r = Code(Nat)." "7: r = Code(child)." "8: child = Code(r)."
@@ -108,7 +108,7 @@ shape types matchFunction f C =
 shape types matchFix f C = same (entry types (f .a)) (Code (partA types (f .a))) ∷ same (entry types (partA types (f .a))) (Fn C C) ∷ []
 
 -- "10: the named binder is .. of type C."
-abbrev pub pattern : Table → Env → Ternary → Fields → ℕ → Rule
+abbrev pub pattern : Table → Env → Match → Fields → ℕ → Rule
 pattern types Γ matchVariable f C = equal (binder Γ (f .a) .type) C ∷ []
 pattern types Γ (matchShape k) f C = shape types k f C
 
@@ -118,7 +118,7 @@ typed types Γ (leaf₀ number) f x y z = same (entry types (f .type)) Nat ∷ [
 typed types Γ (leaf₀ variable) f x y z = equal (binder Γ (f .a) .type) (f .type) ∷ []
 typed types Γ (unary₁ k) f x y z = typed₁ types k f x
 typed types Γ (binary₂ k) f x y z = typed₂ types k f x y
-typed types Γ (ternary₃ k) f x y z = equal y (f .type) ∷ equal z (f .type) ∷ same (entry types x) (Code (partA types x)) ∷ pattern types Γ k f (partA types x)
+typed types Γ (ternary₃ (match k)) f x y z = equal y (f .type) ∷ equal z (f .type) ∷ same (entry types x) (Code (partA types x)) ∷ pattern types Γ k f (partA types x)
 
 -- "A record is judged from its binders, its level and its children's written types."
 abbrev pub Judged : Table → Env → ℕ → Kind → Fields → ℕ → ℕ → ℕ → Type 0

@@ -1,12 +1,25 @@
-// The tables of the kinds, by the kind's number. Code asks these and never compares kind numbers itself. A number that no kind has is
-// answered as kind 1, as `kindOf` says.
+// The tables of the kinds, by the kind's number: code asks these. The type rules (`judging`) and the step rules (`planning`), which are each kind's
+// own, are matched by that number where they stand. A number that no kind has is answered as kind 1, as `kindOf` says.
+mod bounds; // how many types and records a program may have
+mod conditions; // the tests of conditions
+mod editions; // what a program may use
+
+pub use bounds::MOST_RECORDS;
+pub use bounds::MOST_TYPES;
+pub use conditions::both;
+pub use conditions::in_range;
+pub use editions::Edition;
+pub use editions::first_edition;
 ghost use mathlib.Core.Path.{_≡_};
 ghost use Rattle.rules.specs.Kinds.{childCount, kindOf};
 ghost use Rattle.rules.specs.Binders.{bindersFirst, bindersSecond};
 ghost use Rattle.rules.specs.Conditions.{holds};
 ghost use Rattle.rules.specs.FieldUses.{uses, useNumber};
 ghost use Rattle.rules.specs.Typing.{levels, standing, firstLevel};
-ghost use Rattle.rules.specs.Steps.{plainKind, stepping};
+ghost use Rattle.rules.specs.Values.{plainKind};
+ghost use Rattle.rules.specs.Sought.{soughtNumber};
+ghost use Rattle.rules.specs.Contractions.{contracts};
+ghost use Rattle.rules.specs.Steps.{stepping};
 
 // Two bits for each kind, kind 0 lowest: how many children a record of it has.
 const CHILDREN: u32 = 0x3FFD5640;
@@ -83,6 +96,41 @@ pub fn stepping_at_zero(kind: u16) -> u16
     match kind {
         4 => 2,
         5..=7 | 9..=14 => 1,
+        _ => 0,
+    }
+}
+
+// Whether it is rewritten itself at level 0, once the children that it steps are done.
+pub fn contracts_at_zero(kind: u16) -> bool
+    ensures { λ r. ⌜ r ≡ contracts 0 (kindOf kind) ⌝ }
+{
+    match kind {
+        4..=6 | 9..=14 => true,
+        _ => false,
+    }
+}
+
+// The same at level 1.
+pub fn contracts_at_one(kind: u16) -> bool
+    ensures { λ r. ⌜ r ≡ contracts 1 (kindOf kind) ⌝ }
+{
+    match kind {
+        8 => true,
+        _ => false,
+    }
+}
+
+// The number of the kind of code that it looks for: of a number for 9 and 12, and 0 where it is no match.
+pub fn sought_kind(kind: u16) -> u16
+    ensures { λ r. ⌜ r ≡ soughtNumber (kindOf kind) ⌝ }
+{
+    match kind {
+        9 => 1,
+        10 => 2,
+        11 => 4,
+        12 => 1,
+        13 => 3,
+        14 => 5,
         _ => 0,
     }
 }

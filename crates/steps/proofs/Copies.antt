@@ -11,15 +11,16 @@ use Rattle.rules.specs.Terms.{Term, size}
 use Rattle.rules.specs.Format.{Record, noRecord}
 use Rattle.records.specs.View.{recordsIn}
 use Rattle.records.proofs.Records.{records-length}
-use Rattle.terms.specs.Preorder.{preorder, puts, part}
+use Rattle.terms.specs.Preorder.{preorder, puts, part, Stored}
 use Rattle.terms.specs.Moves.{CanMove, Moved}
 use Rattle.terms.proofs.Trees.{at-within, length-preorder}
 use Rattle.terms.proofs.Puts.{length-puts, puts-other, part-puts}
+use Rattle.terms.proofs.Pieces.{pieces-long, first-piece, last-piece, pieces-put}
+use Rattle.terms.proofs.Storing.{stored-length, stored-end}
 use Rattle.planning.specs.declared.Plan.{Plan}
-use Rattle.steps.specs.Making.{Rewriting, Room, CanMake, MadeThere, Makes}
+use Rattle.steps.specs.Making.{Rewriting, RoomToMake, CanMake, StoresMade}
 use Rattle.steps.specs.Copies.{RewrittenBy, CanRewrite, Rewrites}
 use Rattle.steps.proofs.Kept.{zoomed-rewriting, rewriting-kept}
-use Rattle.steps.proofs.Pieces.{pieces-long, first-piece, last-piece, pieces-put}
 
 module _ (rs : List Record) (base n p : ℕ) (q : Plan) (dst : ℕ) (t u : Term) (h : RewrittenBy rs base n p q dst t u) where
   abbrev pre : List Record
@@ -83,23 +84,26 @@ module _ (rs : List Record) (base n p : ℕ) (q : Plan) (dst : ℕ) (t u : Term)
     rewriting-there : Rewriting rs₁ p q redex made
     rewriting-there = rewriting-kept rs rs₁ p q first-length first-keeps redex made rewriting-here
 
-    room-there : Room rs₁ p q (dst + (p - base)) made
+    room-there : RoomToMake rs₁ p q (dst + (p - base)) made
     room-there =
         let l = lies in
         record { room = omega (arith, first-length); apart = ⊎-map (λ x. omega arith) (λ x. omega arith) (h .apart) }
 
     -- After what is made is written.
-    module _ (rs₂ : List Record) (e : ℕ) (w : Makes rs₁ rs₂ p q (dst + (p - base)) e) where
-      made-there : MadeThere rs₁ rs₂ (dst + (p - base)) e made
+    module _ (rs₂ : List Record) (e : ℕ) (w : StoresMade rs₁ rs₂ p q (dst + (p - base)) e) where
+      made-there : Stored rs₁ rs₂ (dst + (p - base)) (preorder made) e
       made-there = w .does redex made rewriting-there room-there
 
+      made-end : e ≡ dst + (p - base) + size made
+      made-end = stored-end made made-there
+
       made-length : length rs₂ ≡ length rs
-      made-length = ap length (made-there .records) ∙ length-puts rs₁ (dst + (p - base)) (preorder made) ∙ first-length
+      made-length = stored-length made-there ∙ first-length
 
       last-copied : CanMove rs₂ (q .end) e (base + n - q .end)
       last-copied =
           let l = lies in
-          let a = made-there .end in
+          let a = made-end in
           record { from = omega (arith, made-length); to = omega (arith, made-length); apart = ⊎-map (λ x. omega arith) (λ x. omega arith) (h .apart) }
 
       -- The records after the rewritten tree are as they were.
@@ -118,13 +122,13 @@ module _ (rs : List Record) (base n p : ℕ) (q : Plan) (dst : ℕ) (t u : Term)
       copied : (rs₃ : List Record) → Moved rs₂ rs₃ (q .end) e (base + n - q .end) → rs₃ ≡ puts rs dst (preorder u)
       copied rs₃ d =
           let i : dst + (p - base) ≡ dst + length pre = omega (arith, h .zoom .place) in
-          let j : e ≡ dst + length pre + size made = omega (arith, made-there .end) in
+          let j : e ≡ dst + length pre + size made = omega (arith, made-end) in
           d .is ∙ ap₂ (puts rs₂) j last-kept
           ∙ ap (λ x. puts x (dst + length pre + size made) suf) (made-there .records ∙ ap₂ (λ x k. puts x k (preorder made)) first-put i)
           ∙ pieces-put u made pre suf (h .zoom .after) rs dst
 
-      all-copied : (rs₃ : List Record) → Moved rs₂ rs₃ (q .end) e (base + n - q .end) → MadeThere rs rs₃ dst (e + (base + n - q .end)) u
-      all-copied rs₃ d = record { records = copied rs₃ d; end = let l = lies in omega (arith, made-there .end) }
+      all-copied : (rs₃ : List Record) → Moved rs₂ rs₃ (q .end) e (base + n - q .end) → Stored rs rs₃ dst (preorder u) (e + (base + n - q .end))
+      all-copied rs₃ d = record { records = copied rs₃ d; end = let l = lies in omega (arith, made-end, length-preorder u) }
 
 -- What the body asks, a law for each.
 module _ (s : List ℕ) (base n p : ℕ) (q : Plan) (dst : ℕ) (h : CanRewrite (recordsIn s) base n p q dst) where
@@ -147,16 +151,16 @@ module _ (s : List ℕ) (base n p : ℕ) (q : Plan) (dst : ℕ) (h : CanRewrite 
     pub rewrite-makes : CanMake rs₁ p q (dst + (p - base))
     rewrite-makes = record { redex = _; contractum = _; rewriting = rewriting-there _ _ _ _ _ _ _ _ (h .can) rs₁ m; room = room-there _ _ _ _ _ _ _ _ (h .can) rs₁ m }
 
-    module _ (rs₂ : List Record) (e : ℕ) (w : Makes rs₁ rs₂ p q (dst + (p - base)) e) where
+    module _ (rs₂ : List Record) (e : ℕ) (w : StoresMade rs₁ rs₂ p q (dst + (p - base)) e) where
       pub rewrite-end-fits : length s < 2 ^ 64 → Fits w64 (e + (base + n - q .end))
       rewrite-end-fits b =
           let l = there in
-          omega (arith, made-there _ _ _ _ _ _ _ _ (h .can) rs₁ m rs₂ e w .end, records-length s)
+          omega (arith, made-end _ _ _ _ _ _ _ _ (h .can) rs₁ m rs₂ e w, records-length s)
 
       pub rewrite-last : CanMove rs₂ (q .end) e (base + n - q .end)
       rewrite-last = last-copied _ _ _ _ _ _ _ _ (h .can) rs₁ m rs₂ e w
 
-pub rewrite-does : (rs rs₁ rs₂ rs₃ : List Record) (base n p : ℕ) (q : Plan) (dst e : ℕ) → Moved rs₂ rs₃ (q .end) e (base + n - q .end) → Makes rs₁ rs₂ p q (dst + (p - base)) e → Moved rs rs₁ base dst (p - base)
+pub rewrite-does : (rs rs₁ rs₂ rs₃ : List Record) (base n p : ℕ) (q : Plan) (dst e : ℕ) → Moved rs₂ rs₃ (q .end) e (base + n - q .end) → StoresMade rs₁ rs₂ p q (dst + (p - base)) e → Moved rs rs₁ base dst (p - base)
     → Rewrites rs rs₃ base n p q dst (e + (base + n - q .end))
 rewrite-does rs rs₁ rs₂ rs₃ base n p q dst e d w m = record { does = λ t u h. all-copied rs base n p q dst t u h rs₁ m rs₂ e w rs₃ d }
 

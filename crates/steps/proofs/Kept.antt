@@ -6,17 +6,18 @@ use mathlib.Core.Path.{_≡_}
 use lib.ListN.{length, getD}
 use Rattle.rules.specs.Terms.{Term, size}
 use Rattle.rules.specs.Types.{Table}
-use Rattle.rules.specs.Format.{Record, noRecord}
+use Rattle.rules.specs.Steps.{Event}
+use Rattle.rules.specs.Format.{Record, noRecord, mostRecords}
 use Rattle.terms.specs.Preorder.{preorder, At}
 use Rattle.terms.proofs.Trees.{frame}
 use Rattle.finding.specs.Zoom.{Zoom}
-use Rattle.finding.proofs.Stored.{redex-there}
+use Rattle.finding.proofs.Zooms.{redex-there}
 use Rattle.replacing.specs.declared.Argument.{Argument}
 use Rattle.planning.specs.declared.Plan.{Plan}
-use Rattle.planning.specs.Planned.{Inside, StandsFor, Arguments, Made, itself, replacing, anew, Planned}
+use Rattle.planning.specs.Planned.{Inside, StandsFor, Arguments, Made, itself, from-body, anew, Planned}
 use Rattle.steps.specs.Making.{Rewriting}
 
-pub zoomed-rewriting : (types : Table) (rs : List Record) (i p : ℕ) (q : Plan) (t u : Term) → At rs i t → size t ≤ 2048 → (z : Zoom types (2 * size t) (preorder t) (preorder u) i p) → Planned rs p q (z .redex) (z .contractum)
+pub zoomed-rewriting : (types : Table) {e : Event} (rs : List Record) (i p : ℕ) (q : Plan) (t u : Term) → At rs i t → size t ≤ mostRecords → (z : Zoom types (2 * size t) e (preorder t) (preorder u) i p) → Planned rs p q (z .redex) (z .contractum)
     → Rewriting rs p q (z .redex) (z .contractum)
 zoomed-rewriting types rs i p q t u h b z g = record {
   types = types;
@@ -40,7 +41,7 @@ module _ (rs rs′ : List Record) (p : ℕ) (q : Plan) (l : length rs′ ≡ len
 
   made-kept : {r′ : Term} {n : ℕ} → Made rs p q r′ n → Made rs′ p q r′ n
   made-kept (itself h n) = itself (inside-kept _ _ h) n
-  made-kept (replacing body ts h n a e) = replacing body ts (inside-kept _ _ h) n (arguments-kept ts a) e
+  made-kept (from-body body ts h n a e) = from-body body ts (inside-kept _ _ h) n (arguments-kept ts a) e
   made-kept (anew h) = anew (stands-kept _ _ h)
 
   pub rewriting-kept : (r r′ : Term) → Rewriting rs p q r r′ → Rewriting rs′ p q r r′

@@ -7,7 +7,6 @@ pub mod MakingForms
 pub mod MadeSizes
 pub mod MadeCopies
 pub mod Kept
-pub mod Pieces
 pub mod Copies
 pub mod Starting
 pub mod NextTerms

@@ -12,20 +12,20 @@ use Rattle.rules.specs.Indices.{changed, replacing, replaced}
 use Rattle.rules.specs.Format.{Record}
 use Rattle.records.specs.View.{recordsIn}
 use Rattle.records.proofs.Records.{records-length}
-use Rattle.terms.specs.Preorder.{preorder, puts, part}
+use Rattle.terms.specs.Preorder.{preorder, puts, part, Stored}
 use Rattle.terms.specs.Moves.{CanMove, Moved}
 use Rattle.terms.proofs.Trees.{at-within, length-preorder}
 use Rattle.terms.proofs.Puts.{at-part}
 use Rattle.replacing.specs.declared.Ends.{Ends}
 use Rattle.replacing.specs.Reading.{Reads, Free}
-use Rattle.replacing.specs.Arguments.{Given, Putting, CanPut, Puts}
+use Rattle.replacing.specs.Arguments.{DescribesAll, CopyingArgument, CanCopyArgument, CopiesArgument}
 use Rattle.replacing.specs.Copying.{replaces, CanCopy, Copies}
 use Rattle.replacing.proofs.Callers.{can-replace, was-replaced}
 use Rattle.planning.specs.declared.Plan.{Plan}
-use Rattle.steps.specs.Making.{Rewriting, Room, CanMake, MadeThere, Makes}
+use Rattle.steps.specs.Making.{Rewriting, RoomToMake, CanMake, StoresMade}
 use Rattle.steps.proofs.RaisedZero.{raised-zero}
 use Rattle.steps.proofs.MakingArea.{area, area-fits, inside-reads, argument-describes, arguments-given, room-free}
-use Rattle.steps.proofs.MakingForms.{Body, by-itself, by-replacing, by-anew}
+use Rattle.steps.proofs.MakingForms.{Body, by-itself, by-body, by-anew}
 
 pub itself-end-fits : (s : List ℕ) (p : ℕ) (q : Plan) (dst : ℕ) → CanMake (recordsIn s) p q dst → q .form ≡ 0 → length s < 2 ^ 64 → Fits w64 (dst + q .size)
 itself-end-fits s p q dst v e l = omega (arith, by-itself (recordsIn s) p q (v .contractum) (v .rewriting .planned .made) e .long, v .room .room, records-length s)
@@ -42,22 +42,22 @@ module _ (rs : List Record) (p : ℕ) (q : Plan) (dst : ℕ) where
         apart = ⊎-elim (λ l. inl (omega (arith, i .upto))) (λ l. inr (omega (arith, i .from))) (v .room .apart);
       })
 
-  pub itself-made : q .form ≡ 0 → (rs′ : List Record) → Moved rs rs′ (q .at) dst (q .size) → Makes rs rs′ p q dst (dst + q .size)
+  pub itself-made : q .form ≡ 0 → (rs′ : List Record) → Moved rs rs′ (q .at) dst (q .size) → StoresMade rs rs′ p q dst (dst + q .size)
   itself-made f rs′ m = record {
     does = λ r r′ h o.
         let t = by-itself rs p q r′ (h .planned .made) f in
         record {
           records = m .is ∙ ap (λ k. puts rs dst (part rs (q .at) k)) (t .long) ∙ ap (puts rs dst) (at-part rs (q .at) r′ (t .inside .there));
-          end = ap (λ k. dst + k) (t .long);
+          end = omega (arith, t .long, length-preorder r′);
         };
   }
 
   -- A body with its variables replaced.
-  module _ (r r′ : Term) (h : Rewriting rs p q r r′) (o : Room rs p q dst r′) (b : Body rs p q r′) where
+  module _ (r r′ : Term) (h : Rewriting rs p q r r′) (o : RoomToMake rs p q dst r′) (b : Body rs p q r′) where
     body-reads : Reads (area p q) rs (q .at) 0 (b .body)
     body-reads = inside-reads rs p q r r′ h (q .at) (b .body) (b .inside)
 
-    body-given : Given (area p q) rs (q .m) (q .first) (q .second) (b .terms)
+    body-given : DescribesAll (area p q) rs (q .m) (q .first) (q .second) (b .terms)
     body-given = arguments-given rs p q r r′ h (b .terms) (b .arguments)
 
     body-free : Free (area p q) rs dst (size (changed (replacing (b .terms)) 0 (b .body)))
@@ -67,38 +67,35 @@ module _ (rs : List Record) (p : ℕ) (q : Plan) (dst : ℕ) where
     can-write : CanCopy (replaces (q .m) (q .first) (q .second)) rs (q .at) dst 0
     can-write = can-replace (area p q) rs (q .at) dst 0 (b .body) body-reads (q .m) (q .first) (q .second) (b .terms) body-given (area-fits p q) body-free
 
-    was-written : (rs′ : List Record) (ends : Ends) → Copies (replaces (q .m) (q .first) (q .second)) rs rs′ (q .at) dst 0 ends → MadeThere rs rs′ dst (ends .dst) r′
+    was-written : (rs′ : List Record) (ends : Ends) → Copies (replaces (q .m) (q .first) (q .second)) rs rs′ (q .at) dst 0 ends → Stored rs rs′ dst (preorder r′) (ends .dst)
     unfolding replaced
     was-written rs′ ends k =
-        let z = was-replaced (area p q) rs (q .at) dst 0 (b .body) body-reads (q .m) (q .first) (q .second) (b .terms) body-given (area-fits p q) body-free rs′ ends k in
-        rw (b .is) (record { records = z .records; end = z .after-written })
+        rw (b .is) (was-replaced (area p q) rs (q .at) dst 0 (b .body) body-reads (q .m) (q .first) (q .second) (b .terms) body-given (area-fits p q) body-free rs′ ends k .stored)
 
   module _ (f : q .form ≡ 1) where
     pub body-copies : CanMake rs p q dst → CanCopy (replaces (q .m) (q .first) (q .second)) rs (q .at) dst 0
-    body-copies v = can-write (v .redex) (v .contractum) (v .rewriting) (v .room) (by-replacing rs p q (v .contractum) (v .rewriting .planned .made) f)
+    body-copies v = can-write (v .redex) (v .contractum) (v .rewriting) (v .room) (by-body rs p q (v .contractum) (v .rewriting .planned .made) f)
 
-    pub body-made : (rs′ : List Record) (ends : Ends) → Copies (replaces (q .m) (q .first) (q .second)) rs rs′ (q .at) dst 0 ends → Makes rs rs′ p q dst (ends .dst)
-    body-made rs′ ends k = record { does = λ r r′ h o. was-written r r′ h o (by-replacing rs p q r′ (h .planned .made) f) rs′ ends k }
+    pub body-made : (rs′ : List Record) (ends : Ends) → Copies (replaces (q .m) (q .first) (q .second)) rs rs′ (q .at) dst 0 ends → StoresMade rs rs′ p q dst (ends .dst)
+    body-made rs′ ends k = record { does = λ r r′ h o. was-written r r′ h o (by-body rs p q r′ (h .planned .made) f) rs′ ends k }
 
   -- An argument alone.
   module _ (z : q .form ≡ 0 → ⊥) (o : q .form ≡ 1 → ⊥) where
-    anew-putting : (r r′ : Term) → Rewriting rs p q r r′ → Room rs p q dst r′ → Putting (area p q) rs (q .first) dst 0 r′
+    anew-copying : (r r′ : Term) → Rewriting rs p q r r′ → RoomToMake rs p q dst r′ → CopyingArgument (area p q) rs (q .first) dst 0 r′
     unfolding area
-    anew-putting r r′ h room = record {
+    anew-copying r r′ h room = record {
       describes = argument-describes rs p q r r′ h (q .first) r′ (by-anew rs p q r′ (h .planned .made) z o);
       free = room-free rs p q r r′ h dst room;
       fits = omega arith;
     }
 
-    pub anew-puts : CanMake rs p q dst → CanPut rs (q .first) dst 0
-    anew-puts v = record { area = area p q; term = v .contractum; can = anew-putting (v .redex) (v .contractum) (v .rewriting) (v .room) }
+    pub anew-copies : CanMake rs p q dst → CanCopyArgument rs (q .first) dst 0
+    anew-copies v = record { area = area p q; term = v .contractum; can = anew-copying (v .redex) (v .contractum) (v .rewriting) (v .room) }
 
-    pub anew-made : (rs′ : List Record) (e : ℕ) → Puts rs rs′ (q .first) dst 0 e → Makes rs rs′ p q dst e
+    pub anew-made : (rs′ : List Record) (e : ℕ) → CopiesArgument rs rs′ (q .first) dst 0 e → StoresMade rs rs′ p q dst e
     anew-made rs′ e k = record {
       does = λ r r′ h room.
-          let w = k .does (area p q) r′ (anew-putting r r′ h room) in
-          let same = ap preorder (raised-zero r′) in
-          record { records = w .records ∙ ap (puts rs dst) same; end = w .end ∙ ap (λ vs. dst + length vs) same ∙ ap (λ n. dst + n) (length-preorder r′) };
+          rw (raised-zero r′) at (k .does (area p q) r′ (anew-copying r r′ h room));
     }
 
-pub ruleset making = (itself-end-fits, itself-moves, itself-made, body-copies, body-made, anew-puts, anew-made)
+pub ruleset making = (itself-end-fits, itself-moves, itself-made, body-copies, body-made, anew-copies, anew-made)

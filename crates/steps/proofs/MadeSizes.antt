@@ -18,10 +18,10 @@ use Rattle.rules.specs.Format.{Record}
 use Rattle.rules.proofs.General.{picked}
 use Rattle.rules.proofs.Laid.{size-some}
 use Rattle.replacing.specs.declared.Argument.{Argument}
-use Rattle.replacing.specs.declared.Counted.{Counted}
+use Rattle.replacing.specs.declared.Tally.{Tally}
 use Rattle.replacing.specs.Reading.{Reads}
-use Rattle.replacing.specs.Arguments.{Given, HasArgument, Measures}
-use Rattle.replacing.specs.Counting.{weight, Sizes, CanCount, Counts}
+use Rattle.replacing.specs.Arguments.{DescribesAll, HasArgument, Measures}
+use Rattle.replacing.specs.Counting.{weight, Sizes, CanTally, Tallies}
 use Rattle.replacing.proofs.Sums.{summed-most, weight-most, changed-size, replacing-weighs}
 use Rattle.replacing.proofs.Callers.{sizes-given}
 use Rattle.planning.specs.declared.Plan.{Plan}
@@ -29,7 +29,7 @@ use Rattle.planning.specs.Planned.{StandsFor}
 use Rattle.steps.specs.Making.{Rewriting, CanMeasure, TellsFits}
 use Rattle.steps.specs.MakingParts.{CanMeasureBody, MeasuresSecond}
 use Rattle.steps.proofs.MakingArea.{area, inside-reads, argument-describes, arguments-given, argument-small}
-use Rattle.steps.proofs.MakingForms.{Body, by-itself, by-replacing, by-anew}
+use Rattle.steps.proofs.MakingForms.{Body, by-itself, by-body, by-anew}
 
 module _ (rs : List Record) (p : ℕ) (q : Plan) where
   stands-there : (r r′ : Term) → Rewriting rs p q r r′ → (g : Argument) (t : Term) → StandsFor rs p (q .end) g t → HasArgument rs g
@@ -51,7 +51,7 @@ module _ (rs : List Record) (p : ℕ) (q : Plan) where
     rewriting = v .can .rewriting
 
     abbrev body-there : Body rs p q contractum
-    body-there = by-replacing rs p q contractum (rewriting .planned .made) (v .form)
+    body-there = by-body rs p q contractum (rewriting .planned .made) (v .form)
 
     first-stands : StandsFor rs p (q .end) (q .first) (getD (body-there .terms) 0 redex)
     first-stands = let g = body-there .arguments in g .each 0 redex (omega (arith, g .some))
@@ -78,7 +78,7 @@ module _ (rs : List Record) (p : ℕ) (q : Plan) where
         | no l ↦ omega (arith, second .none (omega arith))
       ]
 
-      pub body-counts : CanCount rs (q .at) 0 n k
+      pub body-counts : CanTally rs (q .at) 0 n k
       body-counts = record {
         area = area p q;
         tree = body-there .body;
@@ -97,15 +97,15 @@ module _ (rs : List Record) (p : ℕ) (q : Plan) where
 
   module _ (e : q .form ≡ 1) (n k : ℕ) (first : Measures rs (q .first) n) (second : MeasuresSecond rs q k) (r r′ : Term) (h : Rewriting rs p q r r′) where
     abbrev body-of : Body rs p q r′
-    body-of = by-replacing rs p q r′ (h .planned .made) e
+    body-of = by-body rs p q r′ (h .planned .made) e
 
-    given : Given (area p q) rs (q .m) (q .first) (q .second) (body-of .terms)
+    given : DescribesAll (area p q) rs (q .m) (q .first) (q .second) (body-of .terms)
     given = arguments-given rs p q r r′ h (body-of .terms) (body-of .arguments)
 
     sizes : Sizes (q .m) n k (body-of .terms)
     sizes = sizes-given (area p q) rs (q .first) (q .second) (q .m) n k (body-of .terms) given (λ _. first) (second .there)
 
-    counted : (c : Counted) → Counts rs (q .at) 0 (q .m) n k c → c .records ≡ size r′
+    counted : (c : Tally) → Tallies rs (q .at) 0 (q .m) n k c → c .records ≡ size r′
     unfolding replaced
     counted c counts =
         let b = body-of in
@@ -136,7 +136,7 @@ module _ (rs : List Record) (p : ℕ) (q : Plan) where
     pub bound-has-room : (l : ℕ) → l ≡ pick (ltb n k) k n → q .size * l ≤ room → TellsFits rs p q room true
     bound-has-room l f b = record { is = λ r r′ h. sym (le-leb (size r′) room (omega (arith, bounded (v .form) n k first second r r′ h l f))) }
 
-    pub count-has-room : (c : Counted) → Counts rs (q .at) 0 (q .m) n k c → TellsFits rs p q room (leb (c .records) room)
+    pub count-has-room : (c : Tally) → Tallies rs (q .at) 0 (q .m) n k c → TellsFits rs p q room (leb (c .records) room)
     count-has-room c counts = record { is = λ r r′ h. ap (λ x. leb x room) (counted (v .form) n k first second r r′ h c counts) }
 
   pub second-measured : (n : ℕ) → 1 < q .m → Measures rs (q .second) n → MeasuresSecond rs q n

@@ -7,11 +7,11 @@ use Rattle.rules.specs.Terms.{Term, size}
 use Rattle.rules.specs.Format.{Record}
 use Rattle.replacing.specs.declared.Argument.{Argument}
 use Rattle.replacing.specs.Reading.{Area, Low, Reads, Free}
-use Rattle.replacing.specs.Arguments.{Describes, Given}
+use Rattle.replacing.specs.Arguments.{Describes, DescribesAll}
 use Rattle.replacing.proofs.Indices.{low-more, typed-low}
 use Rattle.planning.specs.declared.Plan.{Plan}
 use Rattle.planning.specs.Planned.{Inside, StandsFor, Arguments}
-use Rattle.steps.specs.Making.{Rewriting, Room}
+use Rattle.steps.specs.Making.{Rewriting, RoomToMake}
 use Rattle.steps.proofs.LowParts.{low-within}
 use Rattle.steps.proofs.ArgumentSizes.{described-most}
 
@@ -40,12 +40,12 @@ module _ (rs : List Record) (p : ℕ) (q : Plan) (r r′ : Term) (h : Rewriting 
   pub argument-describes : (g : Argument) (t : Term) → StandsFor rs p (q .end) g t → Describes (area p q) rs g t
   argument-describes g t s = record { tree = s .tree; reads = inside-reads (g .at) (s .tree) (s .inside); is = s .is }
 
-  pub arguments-given : (ts : List Term) → Arguments rs p q ts → Given (area p q) rs (q .m) (q .first) (q .second) ts
+  pub arguments-given : (ts : List Term) → Arguments rs p q ts → DescribesAll (area p q) rs (q .m) (q .first) (q .second) ts
   arguments-given ts a = record { count = a .count; each = λ j z l. argument-describes _ _ (a .each j z l) }
 
   pub argument-small : (g : Argument) (t : Term) → StandsFor rs p (q .end) g t → size t ≤ 65535
   argument-small g t s = omega (arith, ap size (s .is), described-most g (s .tree), s .inside .from, s .inside .upto, h .planned .end, h .few)
 
-  pub room-free : (dst : ℕ) → Room rs p q dst r′ → Free (area p q) rs dst (size r′)
+  pub room-free : (dst : ℕ) → RoomToMake rs p q dst r′ → Free (area p q) rs dst (size r′)
   unfolding area
   room-free dst o = record { room = o .room; apart = o .apart }

@@ -7,7 +7,7 @@ use Rattle.rules.specs.Terms.{Term, size}
 use Rattle.rules.specs.Indices.{replaced}
 use Rattle.rules.specs.Format.{Record}
 use Rattle.planning.specs.declared.Plan.{Plan}
-use Rattle.planning.specs.Planned.{Inside, StandsFor, Arguments, Made, itself, replacing, anew}
+use Rattle.planning.specs.Planned.{Inside, StandsFor, Arguments, Made, itself, from-body, anew}
 
 module _ (rs : List Record) (p : ℕ) (q : Plan) (r′ : Term) where
   -- r′ is a body with its variables replaced.
@@ -26,15 +26,15 @@ module _ (rs : List Record) (p : ℕ) (q : Plan) (r′ : Term) where
 
   pub by-itself : {n : ℕ} → Made rs p q r′ n → n ≡ 0 → Itself
   by-itself (itself i l) e = record { inside = i; long = l }
-  by-itself (replacing body ts i l g k) e = absurd (omega arith)
+  by-itself (from-body body ts i l g k) e = absurd (omega arith)
   by-itself (anew s) e = absurd (omega arith)
 
-  pub by-replacing : {n : ℕ} → Made rs p q r′ n → n ≡ 1 → Body
-  by-replacing (itself i l) e = absurd (omega arith)
-  by-replacing (replacing body ts i l g k) e = record { body = body; terms = ts; inside = i; long = l; arguments = g; is = k }
-  by-replacing (anew s) e = absurd (omega arith)
+  pub by-body : {n : ℕ} → Made rs p q r′ n → n ≡ 1 → Body
+  by-body (itself i l) e = absurd (omega arith)
+  by-body (from-body body ts i l g k) e = record { body = body; terms = ts; inside = i; long = l; arguments = g; is = k }
+  by-body (anew s) e = absurd (omega arith)
 
   pub by-anew : {n : ℕ} → Made rs p q r′ n → (n ≡ 0 → ⊥) → (n ≡ 1 → ⊥) → StandsFor rs p (q .end) (q .first) r′
   by-anew (itself i l) z o = absurd (z refl)
-  by-anew (replacing body ts i l g k) z o = absurd (o refl)
+  by-anew (from-body body ts i l g k) z o = absurd (o refl)
   by-anew (anew s) z o = s

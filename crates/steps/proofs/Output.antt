@@ -4,15 +4,15 @@ use native.Mathlib.Omega.{arith}
 use mathlib.Core.List.{List}
 use mathlib.Core.Path.{_≡_}
 use Rattle.rules.specs.Terms.{Term}
-use Rattle.rules.specs.Format.{Record}
+use Rattle.rules.specs.Format.{Record, mostRecords}
 use Rattle.rules.proofs.Laid.{size-some}
 use Rattle.writing.specs.Program.{ProgramFits, CanWriteProgram, WritesProgram}
 use Rattle.steps.specs.declared.state.State.{State}
-use Rattle.steps.specs.Halves.{Holds}
+use Rattle.steps.specs.Halves.{HoldsTerm}
 use Rattle.steps.specs.Output.{CanWriteOut, WritesOut}
 
-module _ (table : List ℕ) (types : ℕ) (rs : List Record) (s : State) (out : List ℕ) (h : CanWriteOut table types rs s out) (base : ℕ) (b : base ≡ 2048 * s .half) where
-  held-fits : (t : Term) → Holds rs s t → ProgramFits table types rs base (s .size) out t
+module _ (table : List ℕ) (types : ℕ) (rs : List Record) (s : State) (out : List ℕ) (h : CanWriteOut table types rs s out) (base : ℕ) (b : base ≡ mostRecords * s .half) where
+  held-fits : (t : Term) → HoldsTerm rs s t → ProgramFits table types rs base (s .size) out t
   held-fits t k = record {
     entries = h .entries;
     some-types = h .some-types;

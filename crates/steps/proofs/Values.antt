@@ -5,8 +5,8 @@ use mathlib.Core.List.{List}
 use mathlib.Core.Path.{_≡_, sym, _∙_}
 use Rattle.rules.specs.Terms.{Term}
 use Rattle.rules.specs.Types.{Table}
-use Rattle.rules.specs.Steps.{value}
-use Rattle.rules.specs.Format.{Record}
+use Rattle.rules.specs.Values.{value}
+use Rattle.rules.specs.Format.{Record, mostRecords}
 use Rattle.rules.proofs.General.{is-true}
 use Rattle.terms.specs.Preorder.{HasTree}
 use Rattle.finding.specs.declared.Found.{Found}
@@ -20,18 +20,18 @@ module _ (rs : List Record) (s : State) where
   pub value-half : HoldsTyped rs s → s .half ≤ 1
   value-half h = h .runs .holds .half
 
-  module _ (base : ℕ) (b : base ≡ 2048 * s .half) where
+  module _ (base : ℕ) (b : base ≡ mostRecords * s .half) where
     pub value-there : HoldsTyped rs s → HasTree rs base
     value-there h = record { tree = h .term; there = rw b (h .runs .holds .there) }
 
     module _ (f : Found) (finds : Finds 0 rs base f) where
-      found-of : (types : Table) (t : Term) → Runs types rs s t → find 0 t (2048 * s .half) ≡ f
+      found-of : (types : Table) (t : Term) → Runs types rs s t → find 0 t (mostRecords * s .half) ≡ f
       found-of types t k = sym ((rw b at (finds .is)) t (k .holds .there))
 
-      pub value-found : (e : ℕ) → f ≡ Done e → TellsValue rs s true
-      value-found e g = record { is = λ types t k. sym (is-true (value t) (found-value types t (2048 * s .half) (k .typed) e (found-of types t k ∙ g))) }
+      pub tells-value : (e : ℕ) → f ≡ Done e → TellsValue rs s true
+      tells-value e g = record { is = λ types t k. sym (is-true (value t) (found-value types t (mostRecords * s .half) (k .typed) e (found-of types t k ∙ g))) }
 
-      pub no-value-found : (p : ℕ) → f ≡ Redex p → TellsValue rs s false
-      no-value-found p g = record { is = λ types t k. sym (found-next types t (2048 * s .half) (k .typed) p (found-of types t k ∙ g) .no-value) }
+      pub tells-no-value : (p : ℕ) → f ≡ Redex p → TellsValue rs s false
+      tells-no-value p g = record { is = λ types t k. sym (found-next types t (mostRecords * s .half) (k .typed) p (found-of types t k ∙ g) .no-value) }
 
-pub ruleset telling = (value-half, value-there, value-found, no-value-found)
+pub ruleset telling = (value-half, value-there, tells-value, tells-no-value)

@@ -6,20 +6,21 @@ use mathlib.Core.Path.{_≡_}
 use lib.ListN.{length}
 use Rattle.rules.specs.Terms.{Term, size}
 use Rattle.rules.specs.Types.{Table}
-use Rattle.rules.specs.Format.{Record}
-use Rattle.terms.specs.Preorder.{preorder, At}
+use Rattle.rules.specs.Steps.{Event}
+use Rattle.rules.specs.Format.{Record, mostRecords}
+use Rattle.terms.specs.Preorder.{preorder, At, Stored}
 use Rattle.finding.specs.Zoom.{Zoom}
 use Rattle.planning.specs.declared.Plan.{Plan}
 use Rattle.planning.specs.Planned.{Planned}
-use Rattle.steps.specs.Making.{MadeThere}
 
 -- The term t of n records stands at base; by the plan of its tree at p it becomes u. There is room for u from dst on, apart from t.
 pub record RewrittenBy (rs : List Record) (base n p : ℕ) (q : Plan) (dst : ℕ) (t u : Term) : Type 0 where
   pub types : Table
   pub there : At rs base t
   pub long : size t ≡ n
-  pub few : size t ≤ 2048
-  pub zoom : Zoom types (2 * size t) (preorder t) (preorder u) base p
+  pub few : size t ≤ mostRecords
+  pub event : Event
+  pub zoom : Zoom types (2 * size t) event (preorder t) (preorder u) base p
   pub planned : Planned rs p q (zoom .redex) (zoom .contractum)
   pub room : dst + size u ≤ length rs
   pub apart : (base + size t ≤ dst) ⊎ (dst + size u ≤ base)
@@ -29,6 +30,6 @@ pub record CanRewrite (rs : List Record) (base n p : ℕ) (q : Plan) (dst : ℕ)
   pub after : Term
   pub can : RewrittenBy rs base n p q dst term after
 
--- It was written to dst, and e is the place after it.
+-- u was stored at dst, and e is the place after it.
 pub record Rewrites (rs rs′ : List Record) (base n p : ℕ) (q : Plan) (dst e : ℕ) : Type 0 where
-  pub does : (t u : Term) → RewrittenBy rs base n p q dst t u → MadeThere rs rs′ dst e u
+  pub does : (t u : Term) → RewrittenBy rs base n p q dst t u → Stored rs rs′ dst (preorder u) e

@@ -5,14 +5,14 @@ use mathlib.Core.List.{List}
 use mathlib.Core.Path.{_≡_}
 use lib.ListN.{length}
 use Rattle.rules.specs.Terms.{Term, size}
-use Rattle.rules.specs.Format.{Record}
+use Rattle.rules.specs.Format.{Record, mostRecords}
 use Rattle.terms.specs.Preorder.{At}
 use Rattle.steps.specs.declared.state.State.{State}
 
 -- The records have both halves, and the state's half begins with those of t.
-pub record Holds (rs : List Record) (s : State) (t : Term) : Type 0 where
+pub record HoldsTerm (rs : List Record) (s : State) (t : Term) : Type 0 where
   pub half : s .half ≤ 1
-  pub there : At rs (2048 * s .half) t
+  pub there : At rs (mostRecords * s .half) t
   pub long : size t ≡ s .size
-  pub few : size t ≤ 2048
+  pub few : size t ≤ mostRecords
   pub room : 4096 ≤ length rs

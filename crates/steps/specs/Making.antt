@@ -10,7 +10,7 @@ use Rattle.rules.specs.Terms.{Term, size}
 use Rattle.rules.specs.Types.{Table}
 use Rattle.rules.specs.Typing.{Env, Typed}
 use Rattle.rules.specs.Format.{Record}
-use Rattle.terms.specs.Preorder.{preorder, At, puts}
+use Rattle.terms.specs.Preorder.{preorder, At, Stored}
 use Rattle.planning.specs.declared.Plan.{Plan}
 use Rattle.planning.specs.Planned.{Planned}
 
@@ -34,7 +34,7 @@ pub record TellsFits (rs : List Record) (p : ℕ) (q : Plan) (room : ℕ) (b : B
   pub is : (r r′ : Term) → Rewriting rs p q r r′ → b ≡ leb (size r′) room
 
 -- There is room for what is made from dst on, outside of the redex.
-pub record Room (rs : List Record) (p : ℕ) (q : Plan) (dst : ℕ) (r′ : Term) : Type 0 where
+pub record RoomToMake (rs : List Record) (p : ℕ) (q : Plan) (dst : ℕ) (r′ : Term) : Type 0 where
   pub room : dst + size r′ ≤ length rs
   pub apart : (q .end ≤ dst) ⊎ (dst + size r′ ≤ p)
 
@@ -42,12 +42,8 @@ pub record CanMake (rs : List Record) (p : ℕ) (q : Plan) (dst : ℕ) : Type 0 
   pub redex : Term
   pub contractum : Term
   pub rewriting : Rewriting rs p q redex contractum
-  pub room : Room rs p q dst contractum
+  pub room : RoomToMake rs p q dst contractum
 
--- A term was written to dst, and e is the place after it.
-pub record MadeThere (rs rs′ : List Record) (dst e : ℕ) (r′ : Term) : Type 0 where
-  pub records : rs′ ≡ puts rs dst (preorder r′)
-  pub end : e ≡ dst + size r′
-
-pub record Makes (rs rs′ : List Record) (p : ℕ) (q : Plan) (dst e : ℕ) : Type 0 where
-  pub does : (r r′ : Term) → Rewriting rs p q r r′ → Room rs p q dst r′ → MadeThere rs rs′ dst e r′
+-- It was stored there, and e is the place after it.
+pub record StoresMade (rs rs′ : List Record) (p : ℕ) (q : Plan) (dst e : ℕ) : Type 0 where
+  pub does : (r r′ : Term) → Rewriting rs p q r r′ → RoomToMake rs p q dst r′ → Stored rs rs′ dst (preorder r′) e

@@ -3,7 +3,7 @@ ghost use mathlib.Core.Path.{_≡_};
 ghost use lib.Dec.{ltb};
 ghost use Rattle.rules.specs.Lists.{pick};
 ghost use Rattle.records.specs.View.{recordsIn};
-ghost use Rattle.steps.specs.Making.{CanMeasure, TellsFits, CanMake, Makes};
+ghost use Rattle.steps.specs.Making.{CanMeasure, TellsFits, CanMake, StoresMade};
 ghost use Rattle.steps.specs.MakingParts.{CanMeasureBody, MeasuresSecond};
 use planning::Plan;
 
@@ -57,7 +57,7 @@ pub fn made_fits(w: &[u8], p: usize, plan: Plan, room: usize) -> bool
 // Writes what is made to `dst`, by the plan's form; returns the place after it.
 pub fn write_made(w: &mut [u8], p: usize, plan: Plan, dst: usize) -> usize
     requires { ⌜ CanMake (recordsIn (now w)) p plan dst ⌝ }
-    ensures { λ e. ⌜ Makes (recordsIn (now (w .entry))) (recordsIn (now (w .exit))) p plan dst e ⌝ }
+    ensures { λ e. ⌜ StoresMade (recordsIn (now (w .entry))) (recordsIn (now (w .exit))) p plan dst e ⌝ }
 {
     let form = plan.form;
     match form {

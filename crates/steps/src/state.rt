@@ -6,11 +6,15 @@ use finding::Found;
 use planning::Plan;
 ghost use mathlib.Core.Path.{_≡_};
 ghost use Prim.Native.Nat.{_*_, _≤_};
+ghost use Rattle.rules.specs.Format.{mostRecords};
 ghost use Rattle.records.specs.View.{entriesIn, recordsIn};
 ghost use Rattle.steps.specs.Starting.{CanStart, Starts};
 ghost use Rattle.steps.specs.Copies.{CanRewrite, Rewrites};
 ghost use Rattle.steps.specs.Stepping.{HoldsTyped, TellsValue, CanStep, Stepped, CanStepAt, SteppedAt};
 ghost use Rattle.steps.specs.Output.{CanWriteOut, WritesOut};
+
+// How many records a term may have.
+const MOST: usize = rules::MOST_RECORDS as usize;
 
 // The term is in half 0 or half 1 of the work buffer and has `size` records; `steps` are made.
 // Status 0: it is running. 1: the term is a value. 2: the next term has more than 2,048 records.
@@ -24,9 +28,9 @@ pub struct State {
 // The first slot of a half.
 fn first_slot(half: u16) -> usize
     requires { ⌜ half ≤ 1 ⌝ }
-    ensures { λ r. ⌜ r ≡ 2048 * half ⌝ }
+    ensures { λ r. ⌜ r ≡ mostRecords * half ⌝ }
 {
-    2048 * (half as usize)
+    MOST * (half as usize)
 }
 
 // Writes what the plan of the record at `p` makes of the term of `size` records at `base` to `dst`: the records before the rewritten tree,
@@ -67,7 +71,7 @@ impl State {
         let size = self.size as usize;
         let plan = planning::plan_at(table, work, p);
         let kept = size - (plan.end - p);
-        if !made_fits(work, p, plan, 2048 - kept) {
+        if !made_fits(work, p, plan, MOST - kept) {
             self.status = 2;
             return self;
         }

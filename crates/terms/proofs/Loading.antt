@@ -13,10 +13,11 @@ use Rattle.rules.proofs.Laid.{size-some}
 use Rattle.records.specs.View.{recordsIn}
 use Rattle.records.proofs.Records.{records-length}
 use Rattle.records.specs.Places.{Within}
-use Rattle.terms.specs.Preorder.{preorder, puts}
-use Rattle.terms.specs.Loads.{unlinked, WellLinked, CanLoad, Loads, CanPutRoot, PutsRoot}
+use Rattle.terms.specs.Preorder.{preorder, puts, Stored}
+use Rattle.terms.specs.Loads.{unlinked, WellLinked, CanLoad, CanPutRoot, PutsRoot}
 use Rattle.terms.proofs.Trees.{length-preorder}
 use Rattle.terms.proofs.Puts.{length-puts, puts-append}
+use Rattle.terms.proofs.Storing.{stored-end}
 use Rattle.terms.proofs.Children.{kids, sizes, preorders, kids-sizes, preorder-kids}
 use Rattle.terms.proofs.Chains.{Chain, tree-head, tree-chain}
 
@@ -57,7 +58,7 @@ module _ (program : List Record) (n left : ℕ) (rs : List Record) (dst : ℕ) (
           enough = h .enough;
         }
 
-    pub load-ends : (rs″ : List Record) (at child : ℕ) → Loading program n left rs′ (dst + 1) rs″ at child → child ≤ 0 → Loads program n left rs dst rs″ at
+    pub load-ends : (rs″ : List Record) (at child : ℕ) → Loading program n left rs′ (dst + 1) rs″ at child → child ≤ 0 → Stored rs rs″ dst (preorder (treeOf left program n)) at
     unfolding Chain puts sizes preorders
     load-ends rs″ at child l z = go (l .trees) (l .chain) (l .written) (l .ends)
       where
@@ -65,8 +66,8 @@ module _ (program : List Record) (n left : ℕ) (rs : List Record) (dst : ℕ) (
         t = treeOf left program n
 
         go : (ts : List Term) → Chain program (left - 1) n child ts → puts rs″ at (preorders ts) ≡ puts rs′ (dst + 1) (preorders (kids t))
-            → at + sizes ts ≡ dst + 1 + sizes (kids t) → Loads program n left rs dst rs″ at
-        go [] c w q = record { written = w ∙ (rw (p .written, preorder-kids t, tree-head program left n (h .linked) load-left (h .within .some) (h .within .most))); ends = omega (arith, kids-sizes t) }
+            → at + sizes ts ≡ dst + 1 + sizes (kids t) → Stored rs rs″ dst (preorder t) at
+        go [] c w q = record { records = w ∙ (rw (p .written, preorder-kids t, tree-head program left n (h .linked) load-left (h .within .some) (h .within .most))); end = omega (arith, kids-sizes t, length-preorder t) }
         go (u ∷ ts) (c, _, _, _) w q = absurd (omega arith)
 
 pub load-place-fits : (program : List Record) (n left : ℕ) (s : List ℕ) (dst : ℕ) → CanLoad program n left (recordsIn s) dst → length s < 2 ^ 64 → Fits w64 (dst + 1)
@@ -93,9 +94,9 @@ module _ (program : List Record) (n left : ℕ) (rs : List Record) (from : ℕ) 
   pub load-reads : Within program child
   load-reads = load-child .within
 
-  module _ (rs″ : List Record) (at′ : ℕ) (d : Loads program child (left - 1) rs′ at rs″ at′) where
+  module _ (rs″ : List Record) (at′ : ℕ) (d : Stored rs′ rs″ at (preorder (treeOf (left - 1) program child)) at′) where
     pub load-falls : length rs - at′ < length rs - at
-    load-falls = omega (arith, d .ends, load-child .room, same-length, size-some (treeOf (left - 1) program child))
+    load-falls = omega (arith, stored-end (treeOf (left - 1) program child) d, load-child .room, same-length, size-some (treeOf (left - 1) program child))
 
     pub load-goes-on : (next : ℕ) → next ≡ recordNo program child .next → Loading program n left rs from rs″ at′ next
     unfolding Chain sizes preorders
@@ -109,8 +110,8 @@ module _ (program : List Record) (n left : ℕ) (rs : List Record) (from : ℕ) 
             record {
               trees = ts;
               chain = rw i c;
-              written = (rw (d .written, d .ends, ← q, ← length-preorder t)) ∙ sym (puts-append rs′ at (preorder t) (preorders ts)) ∙ w;
-              ends = omega (arith, d .ends, ap size q);
+              written = (rw (d .records, d .end, ← q)) ∙ sym (puts-append rs′ at (preorder t) (preorders ts)) ∙ w;
+              ends = omega (arith, stored-end (treeOf (left - 1) program child) d, ap size q);
               room = l .room;
               linked = l .linked;
               enough = l .enough;

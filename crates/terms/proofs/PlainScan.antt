@@ -7,7 +7,7 @@ use lib.ListN.{getD}
 use Rattle.rules.specs.Kinds.{childCount, kindOf}
 use Rattle.rules.specs.Terms.{Term, leaf, unary, binary, ternary, rootKind}
 use Rattle.rules.specs.Format.{Record, noRecord}
-use Rattle.rules.specs.Steps.{plainKind, plain}
+use Rattle.rules.specs.Values.{plainKind, plain}
 use Rattle.terms.specs.Preorder.{At}
 use Rattle.terms.specs.Plainness.{TellsPlain}
 use Rattle.terms.proofs.Children.{kids, kind-at}
@@ -29,7 +29,7 @@ unfolding kids plains plain
 plain-kids (leaf k f) = refl
 plain-kids (unary k f t) = rw (and-true (plain t))
 plain-kids (binary k f t u) = rw (and-true (plain u))
-plain-kids (ternary k f t s e) = refl
+plain-kids (ternary k f t s e) = rw (and-true (plain e))
 
 next-plains : (t : Term) (ts : List Term) → plains (t ∷ ts) ≡ plainKind (rootKind t) && plains (kids t ++ ts)
 unfolding plains

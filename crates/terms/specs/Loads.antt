@@ -3,14 +3,13 @@ use Prim.Native.Nat.{ℕ, _+_, _≤_, _<_}
 use mathlib.Core.List.{List}
 use mathlib.Core.Path.{_≡_}
 use lib.ListN.{length, set}
-use Rattle.rules.specs.Kinds.{lastKind}
+use Rattle.rules.specs.Kinds.{highestKind}
 use Rattle.rules.specs.Terms.{size}
 use Rattle.rules.specs.Conditions.{Holds}
 use Rattle.rules.specs.Format.{Record, recordNo}
 use Rattle.rules.specs.Links.{NoBadLink, treeOf}
 use Rattle.rules.specs.Check.{childrenRule}
 use Rattle.records.specs.Places.{Within}
-use Rattle.terms.specs.Preorder.{preorder, puts}
 
 -- A record without its links.
 abbrev pub unlinked : Record → Record
@@ -18,7 +17,7 @@ unlinked r = record { kind = r .kind; fields = r .fields; first = 0; next = 0 }
 
 -- The links of a program's records make trees: each kind is known, no link is bad, and each record has as many children as its kind.
 pub record WellLinked (program : List Record) : Type 0 where
-  pub kinds : (n : ℕ) → 1 ≤ n → n ≤ length program → (1 ≤ recordNo program n .kind) × (recordNo program n .kind ≤ lastKind)
+  pub kinds : (n : ℕ) → 1 ≤ n → n ≤ length program → (1 ≤ recordNo program n .kind) × (recordNo program n .kind ≤ highestKind)
   pub links : NoBadLink program
   pub chained : (n : ℕ) → 1 ≤ n → n ≤ length program → Holds (childrenRule program n)
 
@@ -28,11 +27,6 @@ pub record CanLoad (program : List Record) (n left : ℕ) (rs : List Record) (ds
   pub within : Within program n
   pub enough : length program < n + left
   pub room : dst + size (treeOf left program n) ≤ length rs
-
--- rs′ is rs with the tree of record n written to dst, and r the place after it.
-pub record Loads (program : List Record) (n left : ℕ) (rs : List Record) (dst : ℕ) (rs′ : List Record) (r : ℕ) : Type 0 where
-  pub written : rs′ ≡ puts rs dst (preorder (treeOf left program n))
-  pub ends : r ≡ dst + size (treeOf left program n)
 
 -- Record n can be written to dst of rs.
 pub record CanPutRoot (program : List Record) (n : ℕ) (rs : List Record) (dst : ℕ) : Type 0 where

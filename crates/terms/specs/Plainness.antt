@@ -5,7 +5,7 @@ use mathlib.Core.Bool.{Bool}
 use mathlib.Core.Path.{_≡_}
 use Rattle.rules.specs.Terms.{Term}
 use Rattle.rules.specs.Format.{Record}
-use Rattle.rules.specs.Steps.{plain}
+use Rattle.rules.specs.Values.{plain}
 use Rattle.terms.specs.Preorder.{At}
 
 -- r says whether the tree at i is plain.

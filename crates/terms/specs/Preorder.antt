@@ -42,6 +42,11 @@ unfoldable pub puts : List Record → ℕ → List Record → List Record
 puts rs i [] = rs
 puts rs i (v ∷ vs) = puts (set rs i v) (i + 1) vs
 
+-- rs′ is rs with vs stored from dst on, and r is the place after them.
+pub record Stored (rs rs′ : List Record) (dst : ℕ) (vs : List Record) (r : ℕ) : Type 0 where
+  pub records : rs′ ≡ puts rs dst vs
+  pub end : r ≡ dst + length vs
+
 -- n records from i on.
 abbrev pub part : List Record → ℕ → ℕ → List Record
 part rs i n = take n (drop i rs)

@@ -2,12 +2,13 @@
 use records::Record;
 ghost use mathlib.Core.Path.{_≡_};
 ghost use Rattle.rules.specs.Format.{recordNo};
+ghost use Rattle.rules.specs.Links.{treeOf};
 ghost use Rattle.records.specs.View.{recordsIn};
-ghost use Rattle.terms.specs.Preorder.{HasTree, Skips};
+ghost use Rattle.terms.specs.Preorder.{preorder, HasTree, Skips, Stored};
 ghost use Rattle.terms.specs.Plainness.{TellsPlain};
 ghost use Rattle.terms.specs.Moves.{CanMove, Moved};
 ghost use Rattle.records.specs.Places.{Within};
-ghost use Rattle.terms.specs.Loads.{CanPutRoot, PutsRoot, CanLoad, Loads};
+ghost use Rattle.terms.specs.Loads.{CanPutRoot, PutsRoot, CanLoad};
 
 // The place after the tree at `i`.
 pub fn skip(w: &[u8], i: usize) -> usize
@@ -91,7 +92,7 @@ fn sibling(program: &[u8], n: u16) -> u16
 // Returns the place after it. Links go up, so that `left` generations are enough.
 pub fn load(program: &[u8], n: u16, left: u16, w: &mut [u8], dst: usize) -> usize
     requires { ⌜ CanLoad (recordsIn (now program)) n left (recordsIn (now w)) dst ⌝ }
-    ensures { λ r. ⌜ Loads (recordsIn (now (program .entry))) n left (recordsIn (now (w .entry))) dst (recordsIn (now (w .exit))) r ⌝ }
+    ensures { λ r. ⌜ Stored (recordsIn (now (w .entry))) (recordsIn (now (w .exit))) dst (preorder (treeOf left (recordsIn (now (program .entry))) n)) r ⌝ }
 {
     let mut child = put_root(program, n, w, dst);
     let mut at = dst + 1;

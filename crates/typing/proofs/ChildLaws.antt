@@ -10,8 +10,8 @@ use Rattle.rules.specs.Typing.{under, firstLevel}
 use Rattle.rules.specs.Format.{Record}
 use Rattle.records.specs.declared.Record.{Record as Read}
 use Rattle.records.specs.Meant.{recordMeant}
-use Rattle.typing.specs.Stack.{stack}
 use Rattle.records.specs.Places.{IsRecord, Follows}
+use Rattle.judging.specs.Stack.{stack}
 use Rattle.typing.specs.Reading.{CanRead}
 use Rattle.typing.specs.Pushing.{PushesFirst, PushesSecond}
 use Rattle.typing.specs.Entering.{CanEnter, EntersFirst, EntersSecond}

@@ -8,7 +8,7 @@ use mathlib.Core.List.{List, _∷_}
 use lib.ListN.{length, set}
 use lib.Seq.{getD-set-same, getD-set-other}
 use Rattle.rules.specs.Typing.{bind}
-use Rattle.typing.specs.Stack.{encoded, decoded, stack}
+use Rattle.judging.specs.Stack.{encoded, decoded, stack}
 
 decoded-encoded : (l t : ℕ) → t < 65536 → decoded (encoded l t) ≡ bind l t
 decoded-encoded l t h = ap₂ bind (omega arith) (omega arith)

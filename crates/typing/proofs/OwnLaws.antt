@@ -1,4 +1,4 @@
--- A record is judged by what is read of it and of its children: `judging` for search.
+-- A record is judged by what is read of it and of its children: `own-judging` for search.
 use Prim.Native.Nat.{ℕ, _≤_}
 use native.Mathlib.Omega.{arith}
 use mathlib.Core.Path.{_≡_}
@@ -11,10 +11,10 @@ use Rattle.rules.specs.Links.{firstOf}
 use Rattle.rules.specs.Check.{typeNo}
 use Rattle.records.specs.declared.Record.{Record as Read}
 use Rattle.records.specs.Meant.{recordMeant}
-use Rattle.faults.specs.declared.Fault.{Fault}
-use Rattle.faults.specs.Tells.{Tells}
-use Rattle.typing.specs.Judging.{judged}
 use Rattle.records.specs.Places.{IsRecord, Follows}
+use Rattle.refusals.specs.declared.Verdict.{Verdict}
+use Rattle.refusals.specs.Tells.{Tells}
+use Rattle.judging.specs.Judging.{judged}
 use Rattle.typing.specs.Reading.{CanRead, IsType, secondOf, thirdOf}
 use Rattle.typing.specs.Entering.{CanEnter}
 use Rattle.typing.specs.Walking.{judgedAt}
@@ -28,9 +28,9 @@ judged-by : (types : Table) (rs : List Record) (Γ : Env) (l n : ℕ) (r : Recor
 unfolding judgedAt
 judged-by types rs Γ l n r c s e x y z hr hc hs he hx hy hz = rw (hz, hy, hx, he, hs, hc, hr)
 
-pub own-told : (types : Table) (rs : List Record) (Γ : Env) (l n : ℕ) (r : Read) (s e x y z : ℕ) (q : Fault) → IsRecord rs n r → Follows rs (r .first) s → Follows rs s e
+pub own-told : (types : Table) (rs : List Record) (Γ : Env) (l n : ℕ) (r : Read) (s e x y z : ℕ) (q : Verdict) → IsRecord rs n r → Follows rs (r .first) s → Follows rs s e
     → IsType rs (r .first) x → IsType rs s y → IsType rs e z → CanRead rs n → Tells q (judged types Γ l n (recordMeant r) x y z) → Tells q (judgedAt types rs Γ l n)
 own-told types rs Γ l n r s e x y z q own hs he hx hy hz can t =
     rw (← judged-by types rs Γ l n (recordMeant r) (r .first) s e x y z (own .is) (first-link rs n r own can) (second-link rs n r own can s hs) (its-third rs n r own can s e hs he .is) (hx .is) (hy .is) (hz .is)) t
 
-pub ruleset judging = (reading, enter-deep, own-told)
+pub ruleset own-judging = (reading, enter-deep, own-told)

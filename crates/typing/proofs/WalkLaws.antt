@@ -1,168 +1,218 @@
 -- The laws of the walk: `walking` for search.
-use Prim.Native.Nat.{ℕ, _-_, _≤_, _<_}
+use Prim.Native.Nat.{ℕ, _+_, _-_, _*_, _≤_, _<_}
 use native.Mathlib.Omega.{arith}
-use mathlib.Core.Path.{_≡_, refl, sym, _∙_}
+use mathlib.Core.Path.{_≡_, refl, ap, sym, _∙_}
 use mathlib.Core.List.{List, []}
 use mathlib.Core.Option.{Option, none}
 use lib.ListN.{length}
 use Rattle.rules.specs.Types.{Table}
 use Rattle.rules.specs.Typing.{Env}
 use Rattle.rules.specs.Format.{Record}
-use Rattle.rules.specs.Links.{firstOf}
+use Rattle.rules.specs.Links.{firstOf, nextOf}
 use Rattle.rules.specs.Check.{walked}
-use Rattle.rules.specs.Refusals.{Refusal, _then_}
-use Rattle.rules.proofs.Tree.{first-le, next-le}
-use Rattle.faults.specs.declared.Fault.{Fault}
-use Rattle.faults.specs.Tells.{Tells}
-use Rattle.faults.proofs.Laws.{no-number, tells-first, tells-next}
-use Rattle.typing.specs.declared.walk.Child.{Child}
-use Rattle.typing.specs.Stack.{stack}
-use Rattle.typing.specs.Reading.{CanRead, IsThird, secondOf}
+use Rattle.rules.specs.Refusals.{Refusal, badLink, badChildren, _then_}
+use Rattle.rules.proofs.Tests.{holds-lowest}
+use Rattle.rules.proofs.Tree.{first-le, next-le, chainSize, chain-none, whole-size}
+use Rattle.rules.proofs.Meaning.{no-bad-link}
+use Rattle.refusals.specs.declared.Verdict.{Verdict}
+use Rattle.refusals.specs.Tells.{Tells}
+use Rattle.refusals.proofs.Laws.{no-number, tells-first, tells-next}
+use Rattle.judging.specs.Stack.{stack}
+use Rattle.typing.specs.declared.Child.{Child}
+use Rattle.typing.specs.declared.Walked.{Walked}
+use Rattle.typing.specs.Reading.{CanRead, IsThird, secondOf, thirdOf}
 use Rattle.typing.specs.Entering.{CanEnter, Enters, EntersFirst, EntersSecond}
-use Rattle.typing.specs.Walking.{judgedAt, CanWalk, Walks}
+use Rattle.typing.specs.Walking.{judgedAt, treeSize, CanWalk, Walks, MakeTree}
 use Rattle.typing.proofs.Depths.{stack-below}
-use Rattle.typing.proofs.WalkedBy.{fromFirst, fromSecond, fromThird, walked-by, walked-none, walked-nothing, first-nothing, second-nothing}
+use Rattle.typing.proofs.TreeCounts.{tree-then-chain, record-then-chain, none-after-third}
+use Rattle.typing.proofs.WalkedBy.{fromFirst, fromSecond, fromThird, walked-by, first-nothing, second-nothing, third-nothing}
 
--- Nothing to walk: no generation is left, or there is no record.
-module _ (types : Table) (rs : List Record) (bs : List ℕ) (d l n left : ℕ) (q : Fault) (clean : Tells q none) where
-  pub walks-none : left ≡ 0 → Walks types rs bs bs d l n left q
-  walks-none e = record { tells = rw (walked-none types rs (stack bs d) l n left e) clean; kept = refl }
+-- A record's tree has a record, so that one is left.
+pub one-left : (rs : List Record) (bs : List ℕ) (d n left : ℕ) → CanWalk rs bs d n left → 1 ≤ left
+one-left rs bs d n left can = omega (arith, can .enough, record-then-chain rs (can .chained) n (can .here .real) (can .here .within))
 
-  pub walks-nothing : n ≡ 0 → Walks types rs bs bs d l n left q
-  walks-nothing e = record { tells = rw (walked-nothing types rs (stack bs d) l n left e) clean; kept = refl }
+pub can-enter : (rs : List Record) (bs : List ℕ) (d n left : ℕ) → CanWalk rs bs d n left → CanEnter rs bs d n
+can-enter rs bs d n left can = record { here = can .here; room = omega (arith, can .room, one-left rs bs d n left can) }
 
--- A record can be gone into.
-pub can-enter : (rs : List Record) (bs : List ℕ) (d n left : ℕ) → CanWalk rs bs d n left → (left ≡ 0 → ⊥) → (n ≡ 0 → ⊥) → CanEnter rs bs d n
-can-enter rs bs d n left can more real = record {
-  here = record { linked = can .linked; real = omega arith; within = can .within };
-  room = omega (arith, can .room);
-}
-
--- How far the walk of record n has come: its checks so far have passed, so that it says what the `rest` of them says, and the stack, which was bs,
--- is bs′ with what is below the depth kept. t is the walk's measure.
-pub record Passed (t : ℕ) (types : Table) (rs : List Record) (bs bs′ : List ℕ) (d l n left : ℕ) (rest : Option Refusal) : Type 0 where
+-- How far the walk of record n has come. Its checks so far have passed, so that it says what the `rest` of them says, which begins with the tree of
+-- `child`; q is its answer where there is no such child. The stack, which was bs, is bs′ with what is below the depth kept. t is the walk's measure.
+pub record WalkedSoFar (t : ℕ) (types : Table) (rs : List Record) (bs bs′ : List ℕ) (d l n left : ℕ) (q : Walked) (child : ℕ) (rest : Option Refusal) : Type 0 where
   pub measure : left ≡ t
   pub can : CanWalk rs bs′ d n left
-  pub more : left ≡ 0 → ⊥
-  pub real : n ≡ 0 → ⊥
   pub same : length bs′ ≡ length bs
   pub kept : stack bs′ d ≡ stack bs d
-  pub says : (q : Fault) → Tells q rest → Tells q (walked left types rs (stack bs d) l n)
+  pub says : (v : Verdict) → Tells v rest → Tells v (walked (length rs) types rs (stack bs d) l n)
+  pub nothing : child ≡ 0 → rest ≡ none
+  pub clean : Tells (q .verdict) none
+  pub falls : q .left < left
+  pub counted : q .left + treeSize rs n ≡ left + chainSize rs child
+
+clean-verdict : (v : Verdict) (o : Option Refusal) → Tells v o → v .number ≡ 0 → Tells v none
+clean-verdict v o h e = rw (no-number v o h e) at h
 
 -- The record's own checks stop the walk, or pass.
-module _ (types : Table) (rs : List Record) (bs : List ℕ) (d l n left : ℕ) (q : Fault) (own : Tells q (judgedAt types rs (stack bs d) l n))
-    (more : left ≡ 0 → ⊥) (real : n ≡ 0 → ⊥) where
-  pub stops-own : (q .number ≡ 0 → ⊥) → Walks types rs bs bs d l n left q
-  stops-own h = record { tells = rw (walked-by types rs (stack bs d) l n left more real) (tells-first q _ _ own h); kept = refl }
+module _ (types : Table) (rs : List Record) (bs : List ℕ) (d l n left : ℕ) (v : Verdict) (own : Tells v (judgedAt types rs (stack bs d) l n)) (can : CanWalk rs bs d n left) where
+  by-own : walked (length rs) types rs (stack bs d) l n ≡ judgedAt types rs (stack bs d) l n then fromFirst types rs (stack bs d) l n
+  by-own = walked-by types rs (stack bs d) l n (can .here .real) (can .here .within)
 
-  pub passes-own : (t : ℕ) → q .number ≡ 0 → left ≡ t → CanWalk rs bs d n left → Passed t types rs bs bs d l n left (fromFirst types rs (stack bs d) l n (left - 1))
-  passes-own t e m can = record {
+  pub stops-own : (v .number ≡ 0 → ⊥) → Walks types rs bs bs d l n left (record { verdict = v; left = left - 1 })
+  stops-own h = record { tells = rw by-own (tells-first v _ _ own h); counted = λ e. absurd (h e); kept = refl }
+
+  pub passes-own : (t : ℕ) → v .number ≡ 0 → left ≡ t
+      → WalkedSoFar t types rs bs bs d l n left (record { verdict = v; left = left - 1 }) (firstOf rs n) (fromFirst types rs (stack bs d) l n)
+  passes-own t e m = let some = one-left rs bs d n left can in record {
     measure = m;
     can = can;
-    more = more;
-    real = real;
     same = refl;
     kept = refl;
-    says = λ p told. rw (walked-by types rs (stack bs d) l n left more real) (tells-next q p _ _ own e told);
+    says = λ p told. rw by-own (tells-next v p _ _ own e told);
+    nothing = first-nothing types rs (stack bs d) l n;
+    clean = clean-verdict v _ own e;
+    falls = omega arith;
+    counted = omega (arith, record-then-chain rs (can .chained) n (can .here .real) (can .here .within));
   }
 
--- What the walk asks of a record that it has come to this far.
-module _ (t : ℕ) (types : Table) (rs : List Record) (bs bs₀ : List ℕ) (d l n left : ℕ) (rest : Option Refusal) (far : Passed t types rs bs bs₀ d l n left rest) where
+module _ (t : ℕ) (types : Table) (rs : List Record) (bs bs₀ : List ℕ) (d l n left : ℕ) (q : Walked) (child : ℕ) (rest : Option Refusal)
+    (far : WalkedSoFar t types rs bs bs₀ d l n left q child rest) where
   pub passed-enter : CanEnter rs bs₀ d n
-  passed-enter = can-enter rs bs₀ d n left (far .can) (far .more) (far .real)
+  passed-enter = can-enter rs bs₀ d n left (far .can)
 
   pub passed-read : CanRead rs n
-  passed-read = passed-enter .here
+  passed-read = far .can .here
 
-  pub passed-more : 1 ≤ left
-  passed-more = let m = far .more in omega arith
+  pub passed-falls : q .left < t
+  passed-falls = omega (arith, far .falls, far .measure)
 
-  pub passed-falls : left - 1 < t
-  passed-falls = let m = far .more in omega (arith, far .measure)
+  -- Without a child the walk ends.
+  ends : (bs₁ : List ℕ) → stack bs₁ d ≡ stack bs₀ d → child ≡ 0 → Walks types rs bs bs₁ d l n left q
+  ends bs₁ k e = record {
+    tells = far .says (q .verdict) (rw (far .nothing e) (far .clean));
+    counted = λ _. omega (arith, far .counted, ap (chainSize rs) e, chain-none rs);
+    kept = k ∙ far .kept;
+  }
 
-  module _ (bs₁ : List ℕ) (same : length bs₁ ≡ length bs₀) where
-    pub passed-first : (c : Child) → EntersFirst rs bs₀ bs₁ d l n c → CanWalk rs bs₁ (c .depth) (c .n) (left - 1)
-    passed-first c h = record { linked = far .can .linked; within = rw (h .enters .number) (first-le rs n); room = omega (arith, passed-more, far .can .room, h .enters .most) }
+  -- A child's tree can be walked with the records left.
+  module _ (bs₁ : List ℕ) (c : Child) (Γ : Env) (k : ℕ) (enters : Enters Γ k child bs₀ bs₁ d c) (within : child ≤ length rs) (there : c .n ≡ 0 → ⊥) where
+    real : 1 ≤ child
+    real = omega (arith, enters .number, there)
 
-    pub passed-second : (c : Child) → EntersSecond rs bs₀ bs₁ d l n c → CanWalk rs bs₁ (c .depth) (c .n) (left - 1)
-    passed-second c h = record { linked = far .can .linked; within = rw (h .enters .number) (next-le rs (firstOf rs n)); room = omega (arith, passed-more, far .can .room, h .enters .most) }
+    goes : length bs₁ ≡ length bs₀ → CanWalk rs bs₁ (c .depth) (c .n) (q .left)
+    goes same = rw (enters .number) (record {
+      here = record { linked = far .can .here .linked; real = real; within = within };
+      chained = far .can .chained;
+      enough = omega (arith, far .counted, far .can .enough, tree-then-chain rs (far .can .chained) child real within);
+      room = omega (arith, far .falls, far .can .room, enters .most);
+    })
 
-    pub passed-third : (e : ℕ) → IsThird rs n e → CanWalk rs bs₁ d e (left - 1)
-    passed-third e h = record { linked = far .can .linked; within = rw (h .is) (next-le rs (secondOf rs n)); room = omega (arith, passed-more, far .can .room) }
+    -- The child's tree stops the walk, or passes.
+    module _ (bs₂ : List ℕ) (p : Walked) (walk : Walks types rs bs₁ bs₂ (c .depth) (c .level) (c .n) (q .left) p) where
+      told : Tells (p .verdict) (walked (length rs) types rs Γ k child)
+      told = rw (← enters .over, ← enters .level, ← enters .number) (walk .tells)
 
--- The tree of a child stops the walk, or passes: for any child that is gone into, then for the first, the second and the third.
-module _ (t : ℕ) (types : Table) (rs : List Record) (bs bs₀ bs₁ bs₂ : List ℕ) (d l n left : ℕ) (c : Child) (q : Fault)
-    (walk : Walks types rs bs₁ bs₂ (c .depth) (c .level) (c .n) (left - 1) q) where
-  module _ (Γ : Env) (k m : ℕ) (rest : Option Refusal) (far : Passed t types rs bs bs₀ d l n left (walked (left - 1) types rs Γ k m then rest)) (enters : Enters Γ k m bs₀ bs₁ d c) where
-    told : Tells q (walked (left - 1) types rs Γ k m)
-    told = rw (← enters .over, ← enters .level, ← enters .number) (walk .tells)
+      kept : stack bs₂ d ≡ stack bs d
+      kept = stack-below bs₂ bs₁ d (c .depth) (enters .above) (walk .kept) ∙ enters .kept ∙ far .kept
 
-    kept : stack bs₂ d ≡ stack bs d
-    kept = stack-below bs₂ bs₁ d (c .depth) (enters .above) (walk .kept) ∙ enters .kept ∙ far .kept
+      left-after : p .verdict .number ≡ 0 → p .left + treeSize rs n ≡ left + chainSize rs (nextOf rs child)
+      left-after e = omega (arith, far .counted, walk .counted e, ap (treeSize rs) (enters .number), tree-then-chain rs (far .can .chained) child real within)
 
-    stops : (q .number ≡ 0 → ⊥) → Walks types rs bs bs₂ d l n left q
-    stops h = record { tells = far .says q (tells-first q _ _ told h); kept = kept }
+      module _ (more : Option Refusal) (begins : rest ≡ walked (length rs) types rs Γ k child then more) where
+        stops : (p .verdict .number ≡ 0 → ⊥) → Walks types rs bs bs₂ d l n left p
+        stops h = record { tells = far .says (p .verdict) (rw begins (tells-first (p .verdict) _ _ told h)); counted = λ e. absurd (h e); kept = kept }
 
-    passes : q .number ≡ 0 → length bs₁ ≡ length bs₀ → length bs₂ ≡ length bs₁ → Passed t types rs bs bs₂ d l n left rest
-    passes e same₁ same₂ = record {
-      measure = far .measure;
-      can = record { linked = far .can .linked; within = far .can .within; room = omega (arith, far .can .room) };
-      more = far .more;
-      real = far .real;
-      same = same₂ ∙ same₁ ∙ far .same;
-      kept = kept;
-      says = λ p u. far .says p (tells-next q p _ _ told e u);
+        passes : (nextOf rs child ≡ 0 → more ≡ none) → p .verdict .number ≡ 0 → length bs₁ ≡ length bs₀ → length bs₂ ≡ length bs₁
+            → WalkedSoFar t types rs bs bs₂ d l n left p (nextOf rs child) more
+        passes nothing e same₁ same₂ = record {
+          measure = far .measure;
+          can = record { here = far .can .here; chained = far .can .chained; enough = far .can .enough; room = omega (arith, far .can .room) };
+          same = same₂ ∙ same₁ ∙ far .same;
+          kept = kept;
+          says = λ v u. far .says v (rw begins (tells-next (p .verdict) v _ _ told e u));
+          nothing = nothing;
+          clean = clean-verdict (p .verdict) _ told e;
+          falls = omega (arith, far .falls, walk .counted e);
+          counted = left-after e;
+        }
+
+-- The same for the first child, the second and the third.
+module _ (t : ℕ) (types : Table) (rs : List Record) (bs bs₁ : List ℕ) (d l n left : ℕ) (q : Walked)
+    (far : WalkedSoFar t types rs bs bs d l n left q (firstOf rs n) (fromFirst types rs (stack bs d) l n)) (c : Child) (enters : EntersFirst rs bs bs₁ d l n c) where
+  pub ends-leaf : c .n ≡ 0 → Walks types rs bs bs₁ d l n left q
+  ends-leaf e = ends t types rs bs bs d l n left q _ _ far bs₁ (enters .enters .kept) (sym (enters .enters .number) ∙ e)
+
+  pub goes-first : (c .n ≡ 0 → ⊥) → length bs₁ ≡ length bs → CanWalk rs bs₁ (c .depth) (c .n) (q .left)
+  goes-first there = goes t types rs bs bs d l n left q _ _ far bs₁ c _ _ (enters .enters) (first-le rs n) there
+
+  module _ (there : c .n ≡ 0 → ⊥) (bs₂ : List ℕ) (p : Walked) (walk : Walks types rs bs₁ bs₂ (c .depth) (c .level) (c .n) (q .left) p) where
+    pub stops-first : (p .verdict .number ≡ 0 → ⊥) → Walks types rs bs bs₂ d l n left p
+    unfolding fromFirst
+    stops-first = stops t types rs bs bs d l n left q _ _ far bs₁ c _ _ (enters .enters) (first-le rs n) there bs₂ p walk _ refl
+
+    pub passes-first : p .verdict .number ≡ 0 → length bs₁ ≡ length bs → length bs₂ ≡ length bs₁
+        → WalkedSoFar t types rs bs bs₂ d l n left p (secondOf rs n) (fromSecond types rs (stack bs d) l n)
+    unfolding fromFirst
+    passes-first = passes t types rs bs bs d l n left q _ _ far bs₁ c _ _ (enters .enters) (first-le rs n) there bs₂ p walk _ refl (second-nothing types rs (stack bs d) l n)
+
+module _ (t : ℕ) (types : Table) (rs : List Record) (bs bs₀ bs₁ : List ℕ) (d l n left : ℕ) (q : Walked)
+    (far : WalkedSoFar t types rs bs bs₀ d l n left q (secondOf rs n) (fromSecond types rs (stack bs d) l n)) (c : Child) (enters : EntersSecond rs bs₀ bs₁ d l n c) where
+  pub ends-first : c .n ≡ 0 → Walks types rs bs bs₁ d l n left q
+  ends-first e = ends t types rs bs bs₀ d l n left q _ _ far bs₁ (enters .enters .kept) (sym (enters .enters .number) ∙ e)
+
+  pub goes-second : (c .n ≡ 0 → ⊥) → length bs₁ ≡ length bs₀ → CanWalk rs bs₁ (c .depth) (c .n) (q .left)
+  goes-second there = goes t types rs bs bs₀ d l n left q _ _ far bs₁ c _ _ (enters .enters) (next-le rs (firstOf rs n)) there
+
+  module _ (there : c .n ≡ 0 → ⊥) (bs₂ : List ℕ) (p : Walked) (walk : Walks types rs bs₁ bs₂ (c .depth) (c .level) (c .n) (q .left) p) where
+    pub stops-second : (p .verdict .number ≡ 0 → ⊥) → Walks types rs bs bs₂ d l n left p
+    unfolding fromSecond
+    stops-second = stops t types rs bs bs₀ d l n left q _ _ far bs₁ c _ _ (rw (far .kept) at (enters .enters)) (next-le rs (firstOf rs n)) there bs₂ p walk _ refl
+
+    pub passes-second : p .verdict .number ≡ 0 → length bs₁ ≡ length bs₀ → length bs₂ ≡ length bs₁
+        → WalkedSoFar t types rs bs bs₂ d l n left p (thirdOf rs n) (fromThird types rs (stack bs d) l n)
+    unfolding fromSecond
+    passes-second = passes t types rs bs bs₀ d l n left q _ _ far bs₁ c _ _ (rw (far .kept) at (enters .enters)) (next-le rs (firstOf rs n)) there bs₂ p walk _ refl
+        (third-nothing types rs (stack bs d) l n)
+
+module _ (t : ℕ) (types : Table) (rs : List Record) (bs bs₀ : List ℕ) (d l n left : ℕ) (q : Walked)
+    (far : WalkedSoFar t types rs bs bs₀ d l n left q (thirdOf rs n) (fromThird types rs (stack bs d) l n)) (e : ℕ) (third : IsThird rs n e) where
+  pub ends-second : e ≡ 0 → Walks types rs bs bs₀ d l n left q
+  ends-second z = ends t types rs bs bs₀ d l n left q _ _ far bs₀ refl (sym (third .is) ∙ z)
+
+  -- The third child stands where the record itself does.
+  stands : Enters (stack bs₀ d) l (thirdOf rs n) bs₀ bs₀ d (record { n = e; level = l; depth = d })
+  stands = record { number = third .is; level = refl; over = refl; kept = refl; above = omega arith; most = omega arith }
+
+  module _ (there : e ≡ 0 → ⊥) where
+    pub goes-third : CanWalk rs bs₀ d e (q .left)
+    goes-third = goes t types rs bs bs₀ d l n left q _ _ far bs₀ _ _ _ stands (next-le rs (secondOf rs n)) there refl
+
+    pub ends-third : (bs₁ : List ℕ) (p : Walked) → Walks types rs bs₀ bs₁ d l e (q .left) p → Walks types rs bs bs₁ d l n left p
+    unfolding fromThird
+    ends-third bs₁ p walk =
+        let here = far .can .here in
+        record {
+          tells = far .says (p .verdict) (rw (← third .is, ← far .kept) (walk .tells));
+          counted = λ z. omega (
+            arith,
+            left-after t types rs bs bs₀ d l n left q _ _ far bs₀ _ _ _ stands (next-le rs (secondOf rs n)) there bs₁ p walk z,
+            none-after-third rs (far .can .chained) n (here .real) (here .within),
+          );
+          kept = walk .kept ∙ far .kept;
+        }
+
+-- The walk from the root: its tree has all the records.
+pub root-asked : (rs : List Record) (bs : List ℕ) (count : ℕ) → MakeTree rs count → 2 * count ≤ length bs → CanWalk rs bs 0 1 count
+root-asked rs bs count h room =
+    let some : 1 ≤ length rs = omega (arith, h .all, h .real) in
+    let whole = whole-size rs (holds-lowest _ badChildren 1 (length rs) (h .chained)) (holds-lowest _ badLink 1 (length rs) (h .linked)) some in
+    record {
+      here = record { linked = no-bad-link rs (h .linked); real = omega arith; within = some };
+      chained = h .chained;
+      enough = omega (arith, whole, h .all);
+      room = omega arith;
     }
 
-  module _ (far : Passed t types rs bs bs₀ d l n left (fromSecond types rs (stack bs d) l n (left - 1))) (enters : EntersSecond rs bs₀ bs₁ d l n c) where
-    pub stops-second : (q .number ≡ 0 → ⊥) → Walks types rs bs bs₂ d l n left q
-    unfolding fromSecond
-    stops-second = stops _ _ _ _ far (rw (far .kept) at (enters .enters))
-
-    pub passes-second : q .number ≡ 0 → length bs₁ ≡ length bs₀ → length bs₂ ≡ length bs₁ → Passed t types rs bs bs₂ d l n left (fromThird types rs (stack bs d) l n (left - 1))
-    unfolding fromSecond
-    passes-second = passes _ _ _ _ far (rw (far .kept) at (enters .enters))
-
-module _ (t : ℕ) (types : Table) (rs : List Record) (bs bs₁ bs₂ : List ℕ) (d l n left : ℕ) (c : Child) (q : Fault)
-    (walk : Walks types rs bs₁ bs₂ (c .depth) (c .level) (c .n) (left - 1) q)
-    (far : Passed t types rs bs bs d l n left (fromFirst types rs (stack bs d) l n (left - 1))) (enters : EntersFirst rs bs bs₁ d l n c) where
-  pub stops-first : (q .number ≡ 0 → ⊥) → Walks types rs bs bs₂ d l n left q
-  unfolding fromFirst
-  stops-first = stops t types rs bs bs bs₁ bs₂ d l n left c q walk _ _ _ _ far (enters .enters)
-
-  pub passes-first : q .number ≡ 0 → length bs₁ ≡ length bs → length bs₂ ≡ length bs₁ → Passed t types rs bs bs₂ d l n left (fromSecond types rs (stack bs d) l n (left - 1))
-  unfolding fromFirst
-  passes-first = passes t types rs bs bs bs₁ bs₂ d l n left c q walk _ _ _ _ far (enters .enters)
-
-pub ends-third : (t : ℕ) (types : Table) (rs : List Record) (bs bs₀ bs₁ : List ℕ) (d l n left e : ℕ) (q : Fault) → Walks types rs bs₀ bs₁ d l e (left - 1) q
-    → Passed t types rs bs bs₀ d l n left (fromThird types rs (stack bs d) l n (left - 1)) → IsThird rs n e → Walks types rs bs bs₁ d l n left q
-unfolding fromThird
-ends-third t types rs bs bs₀ bs₁ d l n left e q walk far third = record {
-  tells = far .says q (rw (← third .is, ← far .kept) (walk .tells));
-  kept = walk .kept ∙ far .kept;
-}
-
--- A record without a first child has none after it, and one without a second has no third: the walk ends.
-fault-clean : (q : Fault) (o : Option Refusal) → Tells q o → q .number ≡ 0 → Tells q none
-fault-clean q o h e = rw (no-number q o h e) at h
-
-pub ends-leaf : (t : ℕ) (types : Table) (rs : List Record) (bs bs₁ : List ℕ) (d l n left : ℕ) (c : Child) (q : Fault) (o : Option Refusal) → Tells q o → q .number ≡ 0
-    → Passed t types rs bs bs d l n left (fromFirst types rs (stack bs d) l n (left - 1)) → EntersFirst rs bs bs₁ d l n c → c .n ≡ 0 → Walks types rs bs bs₁ d l n left q
-ends-leaf t types rs bs bs₁ d l n left c q o own z far enters e = record {
-  tells = far .says q (rw (first-nothing types rs (stack bs d) l n (left - 1) (sym (enters .enters .number) ∙ e)) (fault-clean q o own z));
-  kept = enters .enters .kept;
-}
-
-pub ends-first : (t : ℕ) (types : Table) (rs : List Record) (bs bs₀ bs₁ : List ℕ) (d l n left : ℕ) (c : Child) (q : Fault) (o : Option Refusal) → Tells q o → q .number ≡ 0
-    → Passed t types rs bs bs₀ d l n left (fromSecond types rs (stack bs d) l n (left - 1)) → EntersSecond rs bs₀ bs₁ d l n c → c .n ≡ 0 → Walks types rs bs bs₁ d l n left q
-ends-first t types rs bs bs₀ bs₁ d l n left c q o own z far enters e = record {
-  tells = far .says q (rw (second-nothing types rs (stack bs d) l n (left - 1) (sym (enters .enters .number) ∙ e)) (fault-clean q o own z));
-  kept = enters .enters .kept ∙ far .kept;
-}
-
--- The walk from the root.
-pub root-told : (types : Table) (rs : List Record) (bs bs′ : List ℕ) (count : ℕ) (q : Fault) → Walks types rs bs bs′ 0 0 1 count q → Tells q (walked count types rs [] 0 1)
+pub root-told : (types : Table) (rs : List Record) (bs bs′ : List ℕ) (count : ℕ) (p : Walked) → MakeTree rs count → Walks types rs bs bs′ 0 0 1 count p
+    → Tells (p .verdict) (walked count types rs [] 0 1)
 unfolding stack
-root-told types rs bs bs′ count q walk = walk .tells
+root-told types rs bs bs′ count p h walk = rw (← h .all) (walk .tells)
 
-pub ruleset walking = (walks-none, walks-nothing, can-enter, stops-own, passes-own, passed-enter, passed-read, passed-more, passed-falls, passed-first, passed-second, passed-third, stops-first, passes-first, stops-second, passes-second, ends-leaf, ends-first, ends-third)
+pub ruleset walking = (one-left, can-enter, stops-own, passes-own, passed-enter, passed-read, passed-falls, ends-leaf, goes-first, stops-first, passes-first, ends-first, goes-second, stops-second, passes-second, ends-second, goes-third, ends-third)

@@ -1,9 +1,10 @@
 -- The walk's definition, with a record's own checks as one: they come first, then the trees of its three children.
-use Prim.Native.Nat.{ℕ, zero, suc, _-_}
+use Prim.Native.Nat.{ℕ, zero, suc, _≤_}
 use native.Mathlib.Omega.{arith}
-use mathlib.Core.Path.{_≡_, refl, sym}
+use mathlib.Core.Path.{_≡_, refl, sym, _∙_}
 use mathlib.Core.List.{List}
 use mathlib.Core.Option.{Option, none, some}
+use lib.ListN.{length}
 use Rattle.rules.specs.Kinds.{kindOf}
 use Rattle.rules.specs.Types.{Table}
 use Rattle.rules.specs.Binders.{overFirst, overSecond}
@@ -12,7 +13,8 @@ use Rattle.rules.specs.Format.{Record, recordNo}
 use Rattle.rules.specs.Links.{firstOf, nextOf}
 use Rattle.rules.specs.Check.{typeNo, walked}
 use Rattle.rules.specs.Refusals.{Refusal, badIndex, badLevel, badType, unless, _then_}
-use Rattle.typing.specs.Judging.{judged}
+use Rattle.rules.proofs.Generations.{all-generations}
+use Rattle.judging.specs.Judging.{judged}
 use Rattle.typing.specs.Reading.{secondOf, thirdOf}
 use Rattle.typing.specs.Entering.{kindNo, fieldsNo}
 use Rattle.typing.specs.Walking.{judgedAt}
@@ -35,48 +37,47 @@ judged-then types Γ l n r x y z w = then-grouped _ _ _ w
 
 module _ (types : Table) (rs : List Record) (Γ : Env) (l : ℕ) where
   -- The checks of record n from the tree of its third child on, of its second, and of its first.
-  unfoldable pub fromThird : ℕ → ℕ → Option Refusal
-  fromThird n left = walked left types rs Γ l (thirdOf rs n)
+  unfoldable pub fromThird : ℕ → Option Refusal
+  fromThird n = walked (length rs) types rs Γ l (thirdOf rs n)
 
-  unfoldable pub fromSecond : ℕ → ℕ → Option Refusal
-  fromSecond n left = walked left types rs (under 0 (overSecond (kindNo rs n) (fieldsNo rs n)) Γ) l (secondOf rs n) then fromThird n left
+  unfoldable pub fromSecond : ℕ → Option Refusal
+  fromSecond n = walked (length rs) types rs (under 0 (overSecond (kindNo rs n) (fieldsNo rs n)) Γ) l (secondOf rs n) then fromThird n
 
-  unfoldable pub fromFirst : ℕ → ℕ → Option Refusal
-  fromFirst n left = walked left types rs (under l (overFirst (kindNo rs n) (fieldsNo rs n)) Γ) (firstLevel (kindNo rs n) l) (firstOf rs n) then fromSecond n left
+  unfoldable pub fromFirst : ℕ → Option Refusal
+  fromFirst n = walked (length rs) types rs (under l (overFirst (kindNo rs n) (fieldsNo rs n)) Γ) (firstLevel (kindNo rs n) l) (firstOf rs n) then fromSecond n
 
-  pub walked-by : (n left : ℕ) → (left ≡ 0 → ⊥) → (n ≡ 0 → ⊥) → walked left types rs Γ l n ≡ judgedAt types rs Γ l n then fromFirst n (left - 1)
+  pub walked-by : (n : ℕ) → 1 ≤ n → n ≤ length rs → walked (length rs) types rs Γ l n ≡ judgedAt types rs Γ l n then fromFirst n
   unfolding walked judgedAt fromFirst fromSecond fromThird
-  walked-by n zero more real = absurd (more refl)
-  walked-by zero (suc left) more real = absurd (real refl)
-  walked-by (suc m) (suc left) more real =
+  walked-by zero real within = absurd (omega arith)
+  walked-by (suc m) real within =
       let n = suc m in
-      let p : suc left - 1 ≡ left = omega arith in
-      rw p (sym (judged-then types Γ l n (recordNo rs n) (typeNo rs (firstOf rs n)) (typeNo rs (secondOf rs n)) (typeNo rs (thirdOf rs n)) (fromFirst n left)))
+      sym (all-generations types rs (suc (length rs)) n Γ l within (omega arith))
+      ∙ sym (judged-then types Γ l n (recordNo rs n) (typeNo rs (firstOf rs n)) (typeNo rs (secondOf rs n)) (typeNo rs (thirdOf rs n)) (fromFirst n))
 
-  -- Nothing is walked where no generation is left, or there is no record.
-  pub walked-none : (n left : ℕ) → left ≡ 0 → walked left types rs Γ l n ≡ none
+  -- Nothing is said of no record.
+  walked-nothing : (n : ℕ) → n ≡ 0 → walked (length rs) types rs Γ l n ≡ none
   unfolding walked
-  walked-none n left e = rw e refl
+  walked-nothing n e = rw e (go (length rs))
+    where
+      go : (left : ℕ) → walked left types rs Γ l 0 ≡ none
+      go zero = refl
+      go (suc left) = refl
 
-  pub walked-nothing : (n left : ℕ) → n ≡ 0 → walked left types rs Γ l n ≡ none
-  unfolding walked
-  walked-nothing n zero e = refl
-  walked-nothing zero (suc left) e = refl
-  walked-nothing (suc n) (suc left) e = absurd (omega arith)
-
--- No record follows none, so that nothing is walked from a child on that is not there.
+-- No record follows none, so that nothing is said from a child on that is not there.
 next-nothing : (rs : List Record) (n : ℕ) → n ≡ 0 → nextOf rs n ≡ 0
 next-nothing rs n e = rw e refl
 
-module _ (types : Table) (rs : List Record) (Γ : Env) (l n left : ℕ) where
-  pub second-nothing : secondOf rs n ≡ 0 → fromSecond types rs Γ l n left ≡ none
-  unfolding fromSecond fromThird _then_
-  second-nothing e =
-      rw (walked-nothing types rs (under 0 (overSecond (kindNo rs n) (fieldsNo rs n)) Γ) l (secondOf rs n) left e)
-      (walked-nothing types rs Γ l (thirdOf rs n) left (next-nothing rs (secondOf rs n) e))
+module _ (types : Table) (rs : List Record) (Γ : Env) (l n : ℕ) where
+  pub third-nothing : thirdOf rs n ≡ 0 → fromThird types rs Γ l n ≡ none
+  unfolding fromThird
+  third-nothing e = walked-nothing types rs Γ l (thirdOf rs n) e
 
-  pub first-nothing : firstOf rs n ≡ 0 → fromFirst types rs Γ l n left ≡ none
+  pub second-nothing : secondOf rs n ≡ 0 → fromSecond types rs Γ l n ≡ none
+  unfolding fromSecond _then_
+  second-nothing e = rw (walked-nothing types rs (under 0 (overSecond (kindNo rs n) (fieldsNo rs n)) Γ) l (secondOf rs n) e) (third-nothing (next-nothing rs (secondOf rs n) e))
+
+  pub first-nothing : firstOf rs n ≡ 0 → fromFirst types rs Γ l n ≡ none
   unfolding fromFirst _then_
   first-nothing e =
-      rw (walked-nothing types rs (under l (overFirst (kindNo rs n) (fieldsNo rs n)) Γ) (firstLevel (kindNo rs n) l) (firstOf rs n) left e)
+      rw (walked-nothing types rs (under l (overFirst (kindNo rs n) (fieldsNo rs n)) Γ) (firstLevel (kindNo rs n) l) (firstOf rs n) e)
       (second-nothing (next-nothing rs (firstOf rs n) e))

@@ -9,8 +9,8 @@ use Rattle.rules.specs.Binders.{overFirst, overSecond}
 use Rattle.rules.specs.Typing.{Env, under, firstLevel}
 use Rattle.rules.specs.Format.{Record, recordNo}
 use Rattle.rules.specs.Links.{firstOf}
-use Rattle.typing.specs.declared.walk.Child.{Child}
-use Rattle.typing.specs.Stack.{stack}
+use Rattle.judging.specs.Stack.{stack}
+use Rattle.typing.specs.declared.Child.{Child}
 use Rattle.typing.specs.Reading.{CanRead, secondOf}
 
 -- n is a record, and there is room for the two binders that a record has at most.

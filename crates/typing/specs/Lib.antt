@@ -1,7 +1,4 @@
--- What the contracts of the walk and of the judging of a record cite.
-pub mod Stack
-pub mod Judging
-pub mod Tests
+-- What the contracts of the walk cite.
 pub mod Reading
 pub mod Pushing
 pub mod Entering

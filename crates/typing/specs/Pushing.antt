@@ -7,7 +7,7 @@ use Rattle.rules.specs.Kinds.{kindOf}
 use Rattle.rules.specs.Terms.{Fields}
 use Rattle.rules.specs.Binders.{overFirst, overSecond}
 use Rattle.rules.specs.Typing.{under}
-use Rattle.typing.specs.Stack.{stack}
+use Rattle.judging.specs.Stack.{stack}
 
 -- Variables of the types ns are bound at level l inside the binders of bs at the depth: bs′ at the depth `inner` has them all.
 pub record Pushes (l : ℕ) (ns : List ℕ) (bs bs′ : List ℕ) (depth inner : ℕ) : Type 0 where

@@ -1,5 +1,192 @@
-// Levels and types: the refusals 10 to 12, by a walk over the tree that the records make.
-mod judge; // one record, from its binders, its level and its children's written types
-mod walk; // the records of a tree, in preorder
+// The walk over the tree of a record, in preorder: the first faulty record and its lowest number of 10 to 12. It calls itself on each child's
+// tree with the records left as the falling number. The binders over a record stand in a lent array, used as a stack: what is below the depth
+// is kept.
+ghost use mathlib.Core.List.{[], _∷_};
+ghost use Prim.Native.Nat.{_+_, _<_, _≤_};
+ghost use lib.ListN.{length};
+ghost use Rattle.rules.specs.Check.{walked};
+ghost use Rattle.records.specs.View.{entriesIn, recordsIn};
+ghost use Rattle.refusals.specs.Tells.{Tells};
+ghost use Rattle.judging.specs.Stack.{stack};
+ghost use Rattle.typing.specs.Reading.{CanRead, IsType, IsThird};
+ghost use Rattle.typing.specs.Pushing.{Pushes, PushesFirst, PushesSecond};
+ghost use Rattle.typing.specs.Entering.{CanEnter, EntersFirst, EntersSecond};
+ghost use Rattle.typing.specs.Walking.{judgedAt, CanWalk, Walks, MakeTree};
 
-pub use walk::types_fault;
+// A child of a record, where its tree is walked: its number, its level, and the depth of the binders over it.
+struct Child {
+    n: u16,
+    level: u16,
+    depth: usize,
+}
+
+// What the walk over a tree says: the verdict on it, and how many records are left after it where nothing is refused.
+struct Walked {
+    verdict: refusals::Verdict,
+    left: u16,
+}
+
+// The written type of record n; 0 for no record.
+fn type_of(records: &[u8], n: u16) -> u16
+    requires { ⌜ n ≤ length (recordsIn (now records)) ⌝ }
+    ensures { λ r. ⌜ IsType (recordsIn (now (records .entry))) n r ⌝ }
+{
+    if n == 0 {
+        return 0;
+    }
+    let r = records::record_no(records, n);
+    r.ty
+}
+
+// The fault of record n itself, which stands at this level under the binders below the depth.
+fn own_refusal(
+    table: &[u8],
+    records: &[u8],
+    binders: &[u32],
+    depth: usize,
+    level: u16,
+    n: u16,
+) -> refusals::Verdict
+    requires { ⌜ CanEnter (recordsIn (now records)) (now binders) depth n ⌝ }
+    ensures { λ q. ⌜ Tells q (judgedAt (entriesIn (now (table .entry))) (recordsIn (now (records .entry))) (stack (now (binders .entry)) depth) level n) ⌝ }
+{
+    let r = records::record_no(records, n);
+    let s = records::next_of(records, r.first);
+    let e = records::next_of(records, s);
+    let x = type_of(records, r.first);
+    let y = type_of(records, s);
+    let z = type_of(records, e);
+    judging::judge(table, binders, depth, level, n, r, x, y, z)
+}
+
+// Binds a variable of type ty at this level, and returns the new depth.
+fn push(binders: &mut [u32], depth: usize, level: u16, ty: u16) -> usize
+    requires { ⌜ depth < length (now binders) ⌝ }
+    ensures { λ r. ⌜ Pushes level (ty ∷ []) (now (binders .entry)) (now (binders .exit)) depth r ⌝ }
+{
+    binders[depth] = 65536 * (level as u32) + (ty as u32);
+    depth + 1
+}
+
+// Binds what a record of this kind binds over its first child, and returns the new depth.
+fn push_first(binders: &mut [u32], depth: usize, kind: u16, level: u16, a: u16) -> usize
+    requires { ⌜ depth + 2 ≤ length (now binders) ⌝ }
+    ensures { λ r. ⌜ PushesFirst kind level a (now (binders .entry)) (now (binders .exit)) depth r ⌝ }
+{
+    if rules::binders_first(kind) == 0 {
+        return depth;
+    }
+    push(binders, depth, level, a)
+}
+
+// Binds what a record of this kind binds over its second child, a then b at level 0, and returns the new depth.
+fn push_second(binders: &mut [u32], depth: usize, kind: u16, a: u16, b: u16) -> usize
+    requires { ⌜ depth + 2 ≤ length (now binders) ⌝ }
+    ensures { λ r. ⌜ PushesSecond kind a b (now (binders .entry)) (now (binders .exit)) depth r ⌝ }
+{
+    let count = rules::binders_second(kind);
+    if count == 0 {
+        return depth;
+    }
+    let one = push(binders, depth, 0, a);
+    if count == 1 {
+        return one;
+    }
+    push(binders, one, 0, b)
+}
+
+// The first child of record n, with what the record binds over it pushed.
+fn first_child(records: &[u8], binders: &mut [u32], depth: usize, level: u16, n: u16) -> Child
+    requires { ⌜ CanEnter (recordsIn (now records)) (now binders) depth n ⌝ }
+    ensures { λ c. ⌜ EntersFirst (recordsIn (now (records .entry))) (now (binders .entry)) (now (binders .exit)) depth level n c ⌝ }
+{
+    let r = records::record_no(records, n);
+    Child {
+        n: r.first,
+        level: rules::first_level(r.kind, level),
+        depth: push_first(binders, depth, r.kind, level, r.a),
+    }
+}
+
+// The second child of record n, with what the record binds over it pushed.
+fn second_child(records: &[u8], binders: &mut [u32], depth: usize, level: u16, n: u16) -> Child
+    requires { ⌜ CanEnter (recordsIn (now records)) (now binders) depth n ⌝ }
+    ensures { λ c. ⌜ EntersSecond (recordsIn (now (records .entry))) (now (binders .entry)) (now (binders .exit)) depth level n c ⌝ }
+{
+    let r = records::record_no(records, n);
+    Child {
+        n: records::next_of(records, r.first),
+        level: level,
+        depth: push_second(binders, depth, r.kind, r.a, r.b),
+    }
+}
+
+// The third child of record n, over which nothing is bound.
+fn third_child(records: &[u8], n: u16) -> u16
+    requires { ⌜ CanRead (recordsIn (now records)) n ⌝ }
+    ensures { λ r. ⌜ IsThird (recordsIn (now (records .entry))) n r ⌝ }
+{
+    let r = records::record_no(records, n);
+    let s = records::next_of(records, r.first);
+    records::next_of(records, s)
+}
+
+// The first fault in the tree of record n, which stands at this level under the binders below the depth. `left` is how many records are left, and
+// enough for the tree: where it is 0 no tree is entered. The first child's tree gets all but n, the second's what the first's leaves, the third's
+// what that leaves.
+fn walk(
+    table: &[u8],
+    records: &[u8],
+    binders: &mut [u32],
+    depth: usize,
+    level: u16,
+    n: u16,
+    left: u16,
+) -> Walked
+    requires { ⌜ CanWalk (recordsIn (now records)) (now binders) depth n left ⌝ }
+    ensures { λ q. ⌜ Walks (entriesIn (now (table .entry))) (recordsIn (now (records .entry))) (now (binders .entry)) (now (binders .exit)) depth level n left q ⌝ }
+{
+    let here = Walked {
+        verdict: own_refusal(table, records, binders, depth, level, n),
+        left: left - 1,
+    };
+    if here.verdict.number != 0 {
+        return here;
+    }
+    let c = first_child(records, binders, depth, level, n);
+    if c.n == 0 {
+        return here;
+    }
+    let first = walk(table, records, binders, c.depth, c.level, c.n, here.left);
+    if first.verdict.number != 0 {
+        return first;
+    }
+    let s = second_child(records, binders, depth, level, n);
+    if s.n == 0 {
+        return first;
+    }
+    let e = third_child(records, n);
+    let second = walk(table, records, binders, s.depth, s.level, s.n, first.left);
+    if second.verdict.number != 0 {
+        return second;
+    }
+    if e == 0 {
+        return second;
+    }
+    walk(table, records, binders, depth, level, e, second.left)
+}
+
+// The first fault in the tree of record 1, the root, at level 0 under no binders. A small program has a small stack, which is sooner cleared.
+pub fn types_refusal(table: &[u8], records: &[u8], count: u16) -> refusals::Verdict
+    requires { ⌜ MakeTree (recordsIn (now records)) count ⌝ }
+    ensures { λ q. ⌜ Tells q (walked count (entriesIn (now (table .entry))) (recordsIn (now (records .entry))) [] 0 1) ⌝ }
+{
+    if count <= 64 {
+        let mut few = [0u32; 128];
+        let small = walk(table, records, &mut few, 0, 0, 1, count);
+        return small.verdict;
+    }
+    let mut binders = [0u32; 4096];
+    let large = walk(table, records, &mut binders, 0, 0, 1, count);
+    large.verdict
+}

@@ -13,7 +13,7 @@ use Rattle.writing.specs.declared.Writer.{Writer}
 use Rattle.writing.specs.declared.Written.{Written}
 use Rattle.writing.specs.Slots.{Filled, HasSlot, Heads, Links}
 use Rattle.writing.specs.State.{movedOn}
-use Rattle.writing.specs.Tree.{Writable, Wrote, Writes}
+use Rattle.writing.specs.Tree.{Writable, WroteTree, Writes}
 use Rattle.writing.proofs.Slots.{filled-length, filled-one, filled-then, filled-linked}
 use Rattle.terms.proofs.Children.{kids, AtAll, kids-at}
 use Rattle.writing.proofs.Children.{laidAll, length-laidAll, laid-children, headed-root, children-of-root, few-children, rootLaid, relinked}
@@ -63,7 +63,7 @@ module _ (ws : List Record) (i : ℕ) (s : List ℕ) (st : Writer) (t : Term) (h
   sizes ts l = sym (length-append (l .front) (laidAll ts (st₁ .number))) ∙ sym (ap length (l .whole)) ∙ length-laid (st .number) 0 t
 
   -- None was left: the tree is written.
-  pub written-without-children : (ts : List Term) → length ts ≡ 0 → Left ws i s st t s₁ place st₁ ts → Wrote i s s₁ st t (record { next = place; state = st₁ })
+  pub written-without-children : (ts : List Term) → length ts ≡ 0 → Left ws i s st t s₁ place st₁ ts → WroteTree i s s₁ st t (record { next = place; state = st₁ })
   unfolding laidAll
   written-without-children [] e l =
       let z = sizes [] l in
@@ -95,7 +95,7 @@ module _ (ws : List Record) (i : ℕ) (s : List ℕ) (st : Writer) (t : Term) (h
 
   module _ (s₂ : List ℕ) (r : Written) (f : Writes ws place s₁ s₂ st₁ r) where
     -- It was the last: the tree is written.
-    pub last-child-written : (u : Term) → Left ws i s st t s₁ place st₁ (u ∷ []) → Wrote i s s₂ st t r
+    pub last-child-written : (u : Term) → Left ws i s st t s₁ place st₁ (u ∷ []) → WroteTree i s s₂ st t r
     unfolding laidAll
     last-child-written u l =
         let q = f .does u (child-writable u [] l) in

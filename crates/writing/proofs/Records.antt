@@ -21,7 +21,7 @@ use Rattle.terms.specs.Preorder.{puts, part}
 use Rattle.terms.proofs.Puts.{length-puts, puts-other, part-cons}
 use Rattle.writing.specs.declared.Written.{Written}
 use Rattle.writing.specs.Slots.{Filled}
-use Rattle.writing.specs.Tree.{Writable, CanWrite, Wrote, Writes}
+use Rattle.writing.specs.Tree.{Writable, CanWrite, WroteTree, Writes}
 use Rattle.writing.specs.Program.{RecordsFit, CanWriteRecords, WroteRecords, WritesRecords}
 
 -- Records that are written are there.
@@ -86,7 +86,7 @@ module _ (ws : List Record) (i : ℕ) (s : List ℕ) (start : ℕ) where
   unfolding overwritten
   wrote-rest p r b l y f = record { does = λ t h. go t h (f .does t (tree-fits t b h)) }
     where
-      go : (t : Term) → RecordsFit ws i s start t → Wrote i rest p (record { number = 1; length = start }) t r → WroteRecords s (with-rest p) start t (r .state .length)
+      go : (t : Term) → RecordsFit ws i s start t → WroteTree i rest p (record { number = 1; length = start }) t r → WroteRecords s (with-rest p) start t (r .state .length)
       go t h q =
           let z = length-laid 1 0 t in
           let k : length rest ≡ length s - start = ap length rest-is ∙ length-drop start s in

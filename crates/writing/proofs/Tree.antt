@@ -15,8 +15,8 @@ use Rattle.terms.proofs.Trees.{at-first}
 use Rattle.writing.specs.declared.Writer.{Writer}
 use Rattle.writing.specs.declared.Written.{Written}
 use Rattle.writing.specs.Slots.{HasSlot, Links}
-use Rattle.writing.specs.State.{CanPut, Puts}
-use Rattle.writing.specs.Tree.{Writable, CanWrite, Wrote, Writes}
+use Rattle.writing.specs.State.{CanPutRecord, PutsRecord}
+use Rattle.writing.specs.Tree.{Writable, CanWrite, WroteTree, Writes}
 use Rattle.writing.proofs.Past.{Left, Rest, root-written, written-without-children, child-writable, last-child-written, child-has-slot, child-linked}
 
 -- Of the `count` children of the tree at i, k are written: s₁, `place` and st₁ are the bytes, the place and the state then.
@@ -28,7 +28,7 @@ module _ {ws : List Record} {i : ℕ} {s : List ℕ} {st : Writer} where
   root-read : CanWrite ws i s st → i < length ws
   root-read h = at-first ws i (h .tree) (h .can .there)
 
-  pub can-put : CanWrite ws i s st → CanPut ws i s st
+  pub can-put : CanWrite ws i s st → CanPutRecord ws i s st
   can-put h =
       let z = size-some (h .tree) in
       record {
@@ -36,7 +36,7 @@ module _ {ws : List Record} {i : ℕ} {s : List ℕ} {st : Writer} where
         short = omega (arith, h .can .short);
       }
 
-  module _ {count : ℕ} {s₁ : List ℕ} {st₁ : Writer} (b : Puts ws i s st s₁ st₁ count) where
+  module _ {count : ℕ} {s₁ : List ℕ} {st₁ : Writer} (b : PutsRecord ws i s st s₁ st₁ count) where
     pub past-none : Past ws i s st count 0 s₁ (i + 1) st₁
     past-none = record { does = λ t h. rw (b .moved) (root-written ws i s st t s₁ count (b .head) h) }
 
@@ -71,7 +71,7 @@ module _ {ws : List Record} {i : ℕ} {s : List ℕ} {st : Writer} where
       ends : ((t : Term) → Writable ws i s st t → count ≡ k + 1) → Writes ws i s s₂ st r
       ends e = record { does = λ t h. child-left _ (λ z. omega (arith, e t h)) t h (go t h) }
         where
-          go : (t : Term) → Writable ws i s st t → (u : Term) (us : List Term) → count ≡ k + 1 + length us → Left ws i s st t s₁ place st₁ (u ∷ us) → Wrote i s s₂ st t r
+          go : (t : Term) → Writable ws i s st t → (u : Term) (us : List Term) → count ≡ k + 1 + length us → Left ws i s st t s₁ place st₁ (u ∷ us) → WroteTree i s s₂ st t r
           go t h u [] z l = last-child-written ws i s st t h s₁ place st₁ s₂ r f u l
           go t h u (v ∷ vs) z l = absurd (omega (arith, e t h))
 

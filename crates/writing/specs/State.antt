@@ -11,11 +11,11 @@ abbrev pub movedOn : Writer → Writer
 movedOn state = record { number = state .number + 1; length = state .length + 16 }
 
 -- Record i of ws can be written under the state's number, and the length after it is a number of 64 bits.
-pub record CanPut (ws : List Record) (i : ℕ) (s : List ℕ) (state : Writer) : Type 0 where
+pub record CanPutRecord (ws : List Record) (i : ℕ) (s : List ℕ) (state : Writer) : Type 0 where
   pub head : CanHead ws i s (state .number)
   pub short : state .length + 16 < 2 ^ 64
 
 -- Record i of ws is written under the state's number and has `children`, and the state has moved on.
-pub record Puts (ws : List Record) (i : ℕ) (s : List ℕ) (state : Writer) (s′ : List ℕ) (state′ : Writer) (children : ℕ) : Type 0 where
+pub record PutsRecord (ws : List Record) (i : ℕ) (s : List ℕ) (state : Writer) (s′ : List ℕ) (state′ : Writer) (children : ℕ) : Type 0 where
   pub head : Heads ws i s (state .number) s′ children
   pub moved : state′ ≡ movedOn state

@@ -25,11 +25,11 @@ pub record CanWrite (ws : List Record) (i : ℕ) (s : List ℕ) (state : Writer)
   pub can : Writable ws i s state tree
 
 -- t is written from the state's number on, its root without a sibling; r tells the place after t and the state after its records.
-pub record Wrote (i : ℕ) (s s′ : List ℕ) (state : Writer) (t : Term) (r : Written) : Type 0 where
+pub record WroteTree (i : ℕ) (s s′ : List ℕ) (state : Writer) (t : Term) (r : Written) : Type 0 where
   pub filled : Filled s (state .number - 1) (laid (state .number) 0 t) s′
   pub next : r .next ≡ i + size t
   pub number : r .state .number ≡ state .number + size t
   pub long : r .state .length ≡ state .length + 16 * size t
 
 pub record Writes (ws : List Record) (i : ℕ) (s s′ : List ℕ) (state : Writer) (r : Written) : Type 0 where
-  pub does : (t : Term) → Writable ws i s state t → Wrote i s s′ state t r
+  pub does : (t : Term) → Writable ws i s state t → WroteTree i s s′ state t r

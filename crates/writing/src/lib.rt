@@ -9,7 +9,7 @@ ghost use Rattle.rules.specs.Lists.{pick};
 ghost use Rattle.records.specs.Overwritten.{overwritten};
 ghost use Rattle.records.specs.View.{recordsIn};
 ghost use Rattle.writing.specs.Slots.{HasSlot, CanHead, Heads, Links};
-ghost use Rattle.writing.specs.State.{CanPut, Puts};
+ghost use Rattle.writing.specs.State.{CanPutRecord, PutsRecord};
 ghost use Rattle.writing.specs.Tree.{CanWrite, Writes};
 ghost use Rattle.writing.specs.Program.{CanWriteRecords, WritesRecords, CanWriteProgram, WritesProgram};
 
@@ -49,8 +49,8 @@ fn write_head(w: &[u8], i: usize, out: &mut [u8], number: u16) -> u16
 impl Writer {
     // Writes the record at `i` of `w` under the next number, and moves on by that record. Tells how many children it has.
     fn put(&mut self, w: &[u8], i: usize, out: &mut [u8]) -> u16
-        requires { ⌜ CanPut (recordsIn (now w)) i (now out) (now self) ⌝ }
-        ensures { λ r. ⌜ Puts (recordsIn (now (w .entry))) i (now (out .entry)) (now (self .entry)) (now (out .exit)) (now (self .exit)) r ⌝ }
+        requires { ⌜ CanPutRecord (recordsIn (now w)) i (now out) (now self) ⌝ }
+        ensures { λ r. ⌜ PutsRecord (recordsIn (now (w .entry))) i (now (out .entry)) (now (self .entry)) (now (out .exit)) (now (self .exit)) r ⌝ }
     {
         let children = write_head(w, i, out, self.number);
         self.number += 1;
@@ -67,8 +67,8 @@ struct Begun {
 
 // Lends the state for the writing of the record at `i` of `w`, so that no caller needs a reference to it.
 fn put_record(w: &[u8], i: usize, out: &mut [u8], mut state: Writer) -> Begun
-    requires { ⌜ CanPut (recordsIn (now w)) i (now out) state ⌝ }
-    ensures { λ r. ⌜ Puts (recordsIn (now (w .entry))) i (now (out .entry)) state (now (out .exit)) (r .state) (r .children) ⌝ }
+    requires { ⌜ CanPutRecord (recordsIn (now w)) i (now out) state ⌝ }
+    ensures { λ r. ⌜ PutsRecord (recordsIn (now (w .entry))) i (now (out .entry)) state (now (out .exit)) (r .state) (r .children) ⌝ }
 {
     let children = state.put(w, i, out);
     Begun { children, state }

@@ -7,7 +7,8 @@ use Rattle.engine.proofs.check.Tie as tie
 pub check-spec : {M : Type 1} → statement M
 check-spec =
     tie.close (tie.spec
-    (λ c κs. search (checking, needs))  -- program-fault-requires
+    (λ c κs. search (checking, needs))  -- first-edition-requires
+    (λ c κs. search (checking, needs))  -- program-refusal-requires
     (λ c. search (checking, needs))  -- cast-t5
     (λ c. search (checking, needs))  -- cast-t6
     (λ c. search (checking, needs))  -- returns

@@ -11,7 +11,8 @@ run-spec =
     (λ c. search (answering, needs))  -- returns
     (λ c κs. search (answering, needs))  -- refusing-requires-2
     (λ c. search (answering, needs))  -- returns-2
-    (λ c κs. search (answering, needs))  -- program-fault-requires
+    (λ c κs. search (answering, needs))  -- first-edition-requires
+    (λ c κs. search (answering, needs))  -- program-refusal-requires
     (λ c κs. search (answering, needs))  -- refusing-requires-3
     (λ c. search (answering, needs))  -- returns-3
     (λ c. search (answering, needs))  -- slice-relend-prefix-accepted

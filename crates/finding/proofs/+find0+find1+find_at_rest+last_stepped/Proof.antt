@@ -20,10 +20,10 @@ use Rattle.finding.proofs.+find0+find1+find_at_rest+last_stepped.Lts-fi
 use Rattle.finding.proofs.last_stepped.Reads as last-stepped
 use Rattle.finding.proofs.last_stepped.Kinds as last-stepped-kinds
 use Rattle.finding.proofs.+find0+find1+find_at_rest+last_stepped.Lts-last_stepped as last-stepped-lts
-use Rattle.finding.proofs.contracts_at_zero.Reads as contracts-at-zero-reads
 use Rattle.finding.proofs.first_splice.Reads as first-splice-reads
 use Rattle.finding.proofs.kind_at.Reads as kind-at-reads
 use Rattle.finding.proofs.or_here.Reads as or-here-reads
+use Rattle.rules.proofs.contracts_at_zero.Reads as contracts-at-zero-reads
 use Rattle.rules.proofs.first_level.Reads as first-level-reads
 use Rattle.rules.proofs.stepping_at_zero.Reads as stepping-at-zero-reads
 use Rattle.terms.proofs.skip.Reads as skip-reads

@@ -13,6 +13,8 @@ matches-spec =
     (λ c κs. search (reading, matching, needs))  -- get-requires-2
     (λ c κs. search (reading, matching, needs))  -- sought-kind-requires
     (λ c. search (reading, matching, needs))  -- returns
+    (λ c κs. search (reading, matching, needs))  -- number-held-requires
+    (λ c κs. search (reading, matching, needs))  -- number-held-requires-2
     (λ c κs. search (reading, matching, needs))  -- entry-no-requires
     (λ c. search (reading, matching, needs))  -- add-second-type
     (λ c κs. search (reading, matching, needs))  -- second-type-requires

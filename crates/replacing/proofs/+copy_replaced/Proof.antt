@@ -11,7 +11,7 @@ use borrow.Fn.PlainCycle.{Measures, is, falls, and}
 use Rattle.replacing.proofs.copy_replaced.Reads as copy-replaced
 use Rattle.replacing.proofs.copy_replaced.Kinds as copy-replaced-kinds
 use Rattle.replacing.proofs.+copy_replaced.Lts-copy_replaced as copy-replaced-lts
-use Rattle.replacing.proofs.both.Reads as both-reads
+use Rattle.replacing.proofs.ended_at.Reads as ended-at-reads
 use Rattle.replacing.proofs.branching_at.Reads as branching-at-reads
 use Rattle.replacing.proofs.replace_root.Reads as replace-root-reads
 use Rattle.replacing.proofs.+copy_replaced.{statement}
@@ -33,25 +33,25 @@ copy-replaced-below t =
     copy-replaced.Pre
 
 abbrev copy-replaced-claims : ℕ → copy-replaced-lts.Claims
-copy-replaced-claims t = (branching-at-reads.Asked, branching-at-reads.Learnt, replace-root-reads.Asked, replace-root-reads.Learnt, both-reads.Asked, both-reads.Learnt, copy-replaced-below t, copy-replaced.Post)
+copy-replaced-claims t = (branching-at-reads.Asked, branching-at-reads.Learnt, replace-root-reads.Asked, replace-root-reads.Learnt, ended-at-reads.Asked, ended-at-reads.Learnt, copy-replaced-below t, copy-replaced.Post)
 
 pub +copy-replaced-spec : {M : Type 1} → statement M
 +copy-replaced-spec = close μ-copy-replaced
     (λ t. copy-replaced-lts.spec (copy-replaced-claims t) (copy-replaced-at t) copy-replaced.Post
     (λ c κs. search (copying, needs))  -- branching-at-requires
     (λ c κs. search (copying, needs))  -- replace-root-requires
-    (λ c. search (copying, needs))  -- add-both
-    (λ c κs. search (copying, needs))  -- both-requires
+    (λ c. search (copying, needs))  -- add-ended-at
+    (λ c κs. search (copying, needs))  -- ended-at-requires
     (λ c. search (copying, needs))  -- same-length
-    (λ c. rw (c .both .ensures) (search (copying, needs)))  -- returns
+    (λ c. rw (c .ended-at .ensures) (search (copying, needs)))  -- returns
     (λ c. search (copying, needs))  -- add-copy-replaced
     (λ c. search (copying, needs))  -- add-copy-replaced-2
     (λ c κs.
     let c₀ = c .before .before in
     first-asks _ _ _ _ _ _ _ _ (c₀ .before .before .before .before .before .branching-at .ensures) (c₀ .before .before .before .replace-root .ensures) (c₀ .if1 .left) _ (c₀ .before .before .before .before .before .before .before .before .pre))  -- copy-replaced-requires
-    (λ c κs. search (copying, needs))  -- both-requires-2
+    (λ c κs. search (copying, needs))  -- ended-at-requires-2
     (λ c. search (copying, needs))  -- same-length-2
-    (λ c. rw (c .both2 .ensures) (search (copying, needs)))  -- returns-2
+    (λ c. rw (c .ended-at2 .ensures) (search (copying, needs)))  -- returns-2
     (λ c.
     let c₁ = c .before .before in
     let c₀ = c₁ .before .before .before .before .before .before in
@@ -60,9 +60,9 @@ pub +copy-replaced-spec : {M : Type 1} → statement M
     let c₁ = c .before .before in
     let c₀ = c₁ .before .before .before .before .before .before in
     second-asks _ _ _ _ _ _ _ _ (c₀ .before .before .before .before .before .branching-at .ensures) (c₀ .before .before .before .replace-root .ensures) (c₀ .if1 .left) _ _ (c₁ .before .before .before .copy-replaced .ensures) (c₁ .if2 .left) _ (c₀ .before .before .before .before .before .before .before .before .pre))  -- copy-replaced-requires-2
-    (λ c κs. search (copying, needs))  -- both-requires-3
+    (λ c κs. search (copying, needs))  -- ended-at-requires-3
     (λ c. search (copying, needs))  -- same-length-3
-    (λ c. rw (c .both3 .ensures) (
+    (λ c. rw (c .ended-at3 .ensures) (
     let c₁ = c .before .before .before .before .before .before .before in
     let c₀ = c₁ .before .before .before .before .before .before in
     two-copied _ _ _ _ _ _ _ _ (c₀ .before .before .before .before .before .branching-at .ensures) (c₀ .before .before .before .replace-root .ensures) (c₀ .if1 .left) _ _ (c₁ .before .before .before .copy-replaced .ensures) (c₁ .if2 .left) _ _ (c .before .before .before .before .copy-replaced2 .ensures) (c .before .if3 .taken)))  -- returns-3
@@ -71,13 +71,13 @@ pub +copy-replaced-spec : {M : Type 1} → statement M
     let c₁ = c₂ .before .before .before .before .before .before in
     let c₀ = c₁ .before .before .before .before .before .before in
     third-asks _ _ _ _ _ _ _ _ (c₀ .before .before .before .before .before .branching-at .ensures) (c₀ .before .before .before .replace-root .ensures) (c₀ .if1 .left) _ _ (c₁ .before .before .before .copy-replaced .ensures) (c₁ .if2 .left) _ _ (c₂ .before .before .before .copy-replaced2 .ensures) (c₂ .if3 .left) _ (c₀ .before .before .before .before .before .before .before .before .pre))  -- copy-replaced-requires-3
-    (λ c κs. search (copying, needs))  -- both-requires-4
+    (λ c κs. search (copying, needs))  -- ended-at-requires-4
     (λ c.
     let c₂ = c .before .before .before .before .before in
     let c₁ = c₂ .before .before .before .before .before .before in
     let c₀ = c₁ .before .before .before .before .before .before in
     omega (arith, c₀ .before .before .before .replace-root, c₁ .before .before .before .copy-replaced, c₂ .before .before .before .copy-replaced2, c .before .before .before .copy-replaced3))  -- same-length-4
-    (λ c. rw (c .both4 .ensures) (
+    (λ c. rw (c .ended-at4 .ensures) (
     let c₂ = c .before .before .before .before .before in
     let c₁ = c₂ .before .before .before .before .before .before in
     let c₀ = c₁ .before .before .before .before .before .before in

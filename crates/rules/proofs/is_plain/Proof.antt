@@ -2,7 +2,7 @@
 use mathlib.Core.List.{[], _∷_}
 use native.Mathlib.Omega.{arith}
 use mathlib.Core.Bool.{true, false}
-use Rattle.rules.specs.Steps.{plainKind}
+use Rattle.rules.specs.Values.{plainKind}
 use Rattle.rules.proofs.KindRanges.{bit, bit-one, arm, rest}
 use Rattle.rules.proofs.is_plain.Statement.{statement}
 use Rattle.rules.proofs.is_plain.Tie as tie

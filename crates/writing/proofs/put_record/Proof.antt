@@ -45,7 +45,7 @@ use denote.Signature.{plain}
 use Rattle.records.specs.View.{recordsIn}
 use Rattle.writing.specs.declared.Writer.{Writer}
 use Rattle.writing.specs.declared.Begun.{Begun}
-use Rattle.writing.specs.State.{CanPut, Puts}
+use Rattle.writing.specs.State.{CanPutRecord, PutsRecord}
 use Rattle.writing.proofs.State.{mach, state-in, state-out}
 use Rattle.writing.proofs.Writer as T
 use Rattle.writing.proofs.Writer.Laws as T′
@@ -78,7 +78,7 @@ made-begun : (r : ℕ) (st : Writer) → r < 2 ^ 16 → Is T.the-row st (mach st
 made-begun r st f is = LL.owes B.the-type B′.the-laws (begun r st) ((refl, f), (is, tt))
 
 module _ {M : Type 1} (𝓤 : URA M) (H : Heap 𝓤) (A : Atoms 𝓤) (W : Given 𝓤 H A) (at-mem : Memory → SProp 𝓤) (run : Routine → Fun 𝓤) (κ₁ κ₂ : Lft) (q₁ q₂ : Share) (x : RefT (List ℕ)) (i : ℕ) (y : RefT (List ℕ)) (st : Writer) (x-room : Room u8 (length (x .now))) (i-fits : i < 2 ^ 64) (y-room : Room u8 (length (y .now)))
-    (was : Is T.the-row st (mach st ∷ [])) (can : CanPut (recordsIn (x .now)) i (y .now) st) where
+    (was : Is T.the-row st (mach st ∷ [])) (can : CanPutRecord (recordsIn (x .now)) i (y .now) st) where
   -- the machine values of the two slices
   abbrev v₁ : Val
   v₁ = sliceVal (x .ptr) (length (x .now))
@@ -127,7 +127,7 @@ module _ {M : Type 1} (𝓤 : URA M) (H : Heap 𝓤) (A : Atoms 𝓤) (W : Given
       nothing ! $ move ! (1 ∷ 0 ∷ []) $ fjoin ! $ move ! (1 ∷ 0 ∷ []) $ fjoin ! $ move ! (1 ∷ 0 ∷ []) $ fjoin ! $ move ! (4 ∷ 0 ∷ []) $ fjoin ! $ move ! (3 ∷ 2 ∷ []) $ join ! $
       use2 W (raw (Put 𝓤 H A at-mem run .pre (to-put ν l δ))) (qed W ((‵ (flft (ν ∷ []) fullShare) ⊛ tokens) ∷ ‵ (owns (MutRef (named 0) (ν ∷ []) T.the-row ∷ ShrSlice (named 1) κ₁ u8 ∷ usize ∷ MutSlice (named 2) κ₂ u8 ∷ []) (to-put ν l δ .0 .3) (to-put ν l δ .0 .4)) ∷ []) ∵ says ! can $ join ! $ done !) $ frame ! $ done !
 
-  exits : (r : ℕ) (st′ : Writer) (zs : List ℕ) → Is B.the-row (begun r st′) (whole-mach r st′ ∷ []) → Puts (recordsIn (x .now)) i (y .now) st zs st′ r → length zs ≡ length (y .now)
+  exits : (r : ℕ) (st′ : Writer) (zs : List ℕ) → Is B.the-row (begun r st′) (whole-mach r st′ ∷ []) → PutsRecord (recordsIn (x .now)) i (y .now) st zs st′ r → length zs ≡ length (y .now)
       → ent 𝓤 (⋆ 𝓤 H A (tokens ∷ ‵ (finally u8 (y .name) zs) ∷ ‵ Own ∷ [])) (Post (whole-mach r st′))
   exits r st′ zs is e l =
       qed W (tokens ∷ ‵ (finally u8 (y .name) zs) ∷ ‵ Own ∷ []) ∵
@@ -155,8 +155,8 @@ module _ {M : Type 1} (𝓤 : URA M) (H : Heap 𝓤) (A : Atoms 𝓤) (W : Given
         calls-at ! fm (Put 𝓤 H A at-mem run) known (to-put ν l₅ δ) (and-then ! (load ! (from ! (stop !)) (look ! 9 refl)) (and-then ! (load ! (from ! (stop !)) (look ! 20 refl)) (and-then ! (load ! (from ! (stop !)) (look ! 18 refl)) (and-then ! (load ! (from ! (stop !)) (look ! 5 refl)) (no-more !))))) (λ v.
         use1 W (later (some (λ (r : ℕ). ((‵ (flft (ν ∷ []) fullShare) ⊛ tokens) ⊛ ‵ (u16 .own r (v ∷ []))) ⊛ raw (ensured 𝓤 H A put.ended (put.clauses 𝓤 H A at-mem run) (ν ∷ [], (κ₁, (κ₂, tt))) (ref l₅ δ, (x, (i, (y, tt)))) tt r)))) (id⊢ 𝓤 _) $ await ! tt $ pick ! (λ r.
         -- [what it leaves; w's; the lender's part; _10; …]: what it ensures, at some last state and some last list of out
-        split ! $ move ! (1 ∷ []) $ use1 W (some (λ (zs : Writer × (Unit {0} × (Unit {0} × (List ℕ × Unit {0})))). ‵ (lasts put.ended (ν ∷ [], (κ₁, (κ₂, tt))) (ref l₅ δ, (x, (i, (y, tt)))) zs) ⊛ raw (fact 𝓤 (Puts (recordsIn (x .now)) i (y .now) st (zs .1 .1 .1 .0) (zs .0) r)))) (id⊢ 𝓤 _) $ pick ! (λ zs.
-        split ! $ move ! (1 ∷ []) $ heard ! (Puts (recordsIn (x .now)) i (y .now) st (zs .1 .1 .1 .0) (zs .0) r) (λ e. fsplit ! $ move ! (1 ∷ []) $ fsplit ! $ drop ! $ fsplit ! $ drop ! $ fsplit ! $ move ! (1 ∷ []) $ drop ! $ fsplit ! $ move ! (1 ∷ []) $ feqL ! (λ l.
+        split ! $ move ! (1 ∷ []) $ use1 W (some (λ (zs : Writer × (Unit {0} × (Unit {0} × (List ℕ × Unit {0})))). ‵ (lasts put.ended (ν ∷ [], (κ₁, (κ₂, tt))) (ref l₅ δ, (x, (i, (y, tt)))) zs) ⊛ raw (fact 𝓤 (PutsRecord (recordsIn (x .now)) i (y .now) st (zs .1 .1 .1 .0) (zs .0) r)))) (id⊢ 𝓤 _) $ pick ! (λ zs.
+        split ! $ move ! (1 ∷ []) $ heard ! (PutsRecord (recordsIn (x .now)) i (y .now) st (zs .1 .1 .1 .0) (zs .0) r) (λ e. fsplit ! $ move ! (1 ∷ []) $ fsplit ! $ drop ! $ fsplit ! $ drop ! $ fsplit ! $ move ! (1 ∷ []) $ drop ! $ fsplit ! $ move ! (1 ∷ []) $ feqL ! (λ l.
         move ! (2 ∷ []) $ split ! $ move ! (1 ∷ []) $ facts ! u16 (Is u16) (shows 𝓤 H A u16) r (v ∷ []) (λ is.
         -- [the tokens; out's last list; the last state; w's; the lender's part; _10; …; _9; …; _8; …; _7; …; _6; …; …; _4; …; _3; …; _2; …; _1; …; room for _0; …]
         land ! (from ! (stop !)) (init ! 13 refl (uint-lawful 𝓤 H A W w16 .typed r _ is .0)) $ rewrite ! 13 (λ (u : Val). ‵ (fat fullShare (tyInt w16) l₆ 0 u)) (ap only (is .0)) refl $
@@ -174,7 +174,7 @@ module _ {M : Type 1} (𝓤 : URA M) (H : Heap 𝓤) (A : Atoms 𝓤) (W : Given
   put-record-walks : (C : Calls 𝓤 H) (Λ : Loops 𝓤 H) → FmC 𝓤 H (W .laws) C → Triple 𝓤 (C #writing·Writer·put) (Put 𝓤 H A at-mem run) → Walks 𝓤 H A put-record.ended stayed (WpFn 𝓤 H C Λ code.function) (put-record.clauses 𝓤 H A at-mem run)
   put-record-walks C Λ fm known = walked 𝓤 H A put-record.ended stayed (put-record.clauses 𝓤 H A at-mem run) (WpFn 𝓤 H C Λ code.function)
       (λ κs. (slice-vals, (uint-vals w64, (slice-vals, (LL.vals T.the-type T′.the-laws, tt))))) (λ κs. (shr-slice-tells (named 0) (κs .0) u8, (uint-tells w64, (mut-slice-tells (named 1) (κs .1 .0) u8, (LL.tells T.the-type T′.the-laws, tt)))))
-      (λ κs qs bounds a g are. needs 𝓤 (CanPut (recordsIn (a .0 .now)) (a .1 .0) (a .1 .1 .0 .now) (a .1 .1 .1 .0)) _ (λ can.
+      (λ κs qs bounds a g are. needs 𝓤 (CanPutRecord (recordsIn (a .0 .now)) (a .1 .0) (a .1 .1 .0 .now) (a .1 .1 .1 .0)) _ (λ can.
       walk 𝓤 H A W at-mem run (κs .0) (κs .1 .0) (qs .0) (qs .1 .0) (a .0) (a .1 .0) (a .1 .1 .0) (a .1 .1 .1 .0) (are .0 .0 .1) (are .1 .0 .1) (are .1 .1 .0 .0 .1) (are .1 .1 .1 .0) can C Λ fm known))
 
   goes : AllGo 𝓤 H A W 2 (put-record.signature .params) (put-record.ended .kept) stayed

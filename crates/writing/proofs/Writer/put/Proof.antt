@@ -46,7 +46,7 @@ use Rattle.rules.specs.Format.{Record}
 use Rattle.records.specs.View.{recordsIn}
 use Rattle.writing.specs.declared.Writer.{Writer}
 use Rattle.writing.specs.Slots.{Heads}
-use Rattle.writing.specs.State.{CanPut, Puts}
+use Rattle.writing.specs.State.{CanPutRecord, PutsRecord}
 use Rattle.writing.proofs.State.{mach, made, fits-number, fits-length}
 use Rattle.writing.proofs.Writer as T
 use Rattle.writing.proofs.Writer.Laws as T′
@@ -71,11 +71,11 @@ abbrev after : Writer → Writer
 after st = record { number = st .number + 1; length = st .length + 16 }
 
 -- the fact of the `ensures`
-wrote : {ws : List Record} {i : ℕ} {s : List ℕ} {st : Writer} {s′ : List ℕ} {r : ℕ} → Heads ws i s (st .number) s′ r → Puts ws i s st s′ (after st) r
+wrote : {ws : List Record} {i : ℕ} {s : List ℕ} {st : Writer} {s′ : List ℕ} {r : ℕ} → Heads ws i s (st .number) s′ r → PutsRecord ws i s st s′ (after st) r
 wrote e = record { head = e; moved = refl }
 
 module _ {M : Type 1} (𝓤 : URA M) (H : Heap 𝓤) (A : Atoms 𝓤) (W : Given 𝓤 H A) (at-mem : Memory → SProp 𝓤) (run : Routine → Fun 𝓤) (κ κ₁ κ₂ : Lft) (q q₁ q₂ : Share) (b o : ℕ) (γ : GName) (st : Writer) (x : RefT (List ℕ)) (i : ℕ) (y : RefT (List ℕ)) (i-fits : i < 2 ^ 64) (x-room : Room u8 (length (x .now))) (y-room : Room u8 (length (y .now)))
-    (can : CanPut (recordsIn (x .now)) i (y .now) st) where
+    (can : CanPutRecord (recordsIn (x .now)) i (y .now) st) where
   -- the machine values of the two slices
   abbrev v₁ : Val
   v₁ = sliceVal (x .ptr) (length (x .now))
@@ -117,7 +117,7 @@ module _ {M : Type 1} (𝓤 : URA M) (H : Heap 𝓤) (A : Atoms 𝓤) (W : Given
       move ! (1 ∷ []) $ owned ! u16 (Is u16) (uint-makes 𝓤 H A W w16) (st .number) _ (refl, fits) $ fjoin ! $ move ! (1 ∷ 0 ∷ []) $ fjoin ! $ move ! (1 ∷ 0 ∷ []) $ fjoin ! $ move ! (1 ∷ 0 ∷ []) $ fjoin ! $
       move ! (2 ∷ 0 ∷ []) $ use2 W (raw (WriteHead 𝓤 H A at-mem run .pre to-head)) (qed W (tokens ∷ ‵ (owns (ShrSlice (named 0) κ₁ u8 ∷ usize ∷ MutSlice (named 1) κ₂ u8 ∷ u16 ∷ []) (to-head .0 .3) (to-head .0 .4)) ∷ []) ∵ says ! (can .head) $ join ! $ done !) $ frame ! $ done !
 
-  exits : (r : ℕ) (v : Val) (zs : List ℕ) → Is u16 r (v ∷ []) → Puts (recordsIn (x .now)) i (y .now) st zs (after st) r → length zs ≡ length (y .now)
+  exits : (r : ℕ) (v : Val) (zs : List ℕ) → Is u16 r (v ∷ []) → PutsRecord (recordsIn (x .now)) i (y .now) st zs (after st) r → length zs ≡ length (y .now)
       → ent 𝓤 (⋆ 𝓤 H A (‵ (fobs γ (T.the-row .coded .code (after st))) ∷ ‵ (fbor κ (Body (mem T.the-row) b o γ)) ∷ ‵ (flft κ q) ∷ tokens ∷ ‵ (finally u8 (y .name) zs) ∷ ‵ Own ∷ [])) (Post v)
   exits r v zs is e l =
       qed W (‵ (fobs γ (T.the-row .coded .code (after st))) ∷ ‵ (fbor κ (Body (mem T.the-row) b o γ)) ∷ ‵ (flft κ q) ∷ tokens ∷ ‵ (finally u8 (y .name) zs) ∷ ‵ Own ∷ []) ∵
@@ -169,7 +169,7 @@ module _ {M : Type 1} (𝓤 : URA M) (H : Heap 𝓤) (A : Atoms 𝓤) (W : Given
   put-walks : (C : Calls 𝓤 H) (Λ : Loops 𝓤 H) → FmC 𝓤 H (W .laws) C → Triple 𝓤 (C #writing·write-head) (WriteHead 𝓤 H A at-mem run) → Walks 𝓤 H A put.ended stayed (WpFn 𝓤 H C Λ code.function) (put.clauses 𝓤 H A at-mem run)
   put-walks C Λ fm known = walked 𝓤 H A put.ended stayed (put.clauses 𝓤 H A at-mem run) (WpFn 𝓤 H C Λ code.function)
       (λ κs. (ptr-vals, (slice-vals, (uint-vals w64, (slice-vals, tt))))) (λ κs. (mut-tells (named 0) (κs .0) T.the-row, (shr-slice-tells (named 1) (κs .1 .0) u8, (uint-tells w64, (mut-slice-tells (named 2) (κs .1 .1 .0) u8, tt)))))
-      (λ κs qs bounds a g are. needs 𝓤 (CanPut (recordsIn (a .1 .0 .now)) (a .1 .1 .0) (a .1 .1 .1 .0 .now) (a .0 .now)) _ (λ can.
+      (λ κs qs bounds a g are. needs 𝓤 (CanPutRecord (recordsIn (a .1 .0 .now)) (a .1 .1 .0) (a .1 .1 .1 .0 .now) (a .0 .now)) _ (λ can.
       walk 𝓤 H A W at-mem run (κs .0) (κs .1 .0) (κs .1 .1 .0) (qs .0) (qs .1 .0) (qs .1 .1 .0) (a .0 .ptr .0) (a .0 .ptr .1) (a .0 .name) (a .0 .now) (a .1 .0) (a .1 .1 .0) (a .1 .1 .1 .0)
       (are .1 .1 .0 .1) (are .1 .0 .0 .1) (are .1 .1 .1 .0 .0 .1) can C Λ fm known))
 

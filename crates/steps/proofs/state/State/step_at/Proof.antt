@@ -1,6 +1,6 @@
 -- `State::step_at` meets its contract: the next term has no room, or is written to the other half. Assumes nothing.
 use borrow.Author.Needs.{needs}
-use Rattle.steps.proofs.Stepping.{step-rewrites, step-moves, stepping}
+use Rattle.steps.proofs.Stepping.{step-rewrites, step-advances, stepping}
 use Rattle.steps.proofs.state.State.step_at.Statement.{statement}
 use Rattle.steps.proofs.state.State.step_at.Tie as tie
 
@@ -30,5 +30,5 @@ step-at-spec =
     (λ c. search (stepping, needs))  -- cast-self
     (λ c. search (stepping, needs))  -- add-self
     (λ c. search (stepping, needs))  -- same-length-2
-    (λ c. search (stepping, step-moves, needs))  -- returns-2
+    (λ c. search (stepping, step-advances, needs))  -- returns-2
     )

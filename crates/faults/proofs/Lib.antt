@@ -1,2 +1,0 @@
--- The laws of checks that follow one another.
-pub mod Laws

@@ -1,7 +1,0 @@
--- `faults::refuse` says what it is named for.
-use Rattle.faults.proofs.Laws.{tells-some}
-use Rattle.faults.proofs.refuse.Statement.{statement}
-use Rattle.faults.proofs.refuse.Tie as tie
-
-pub refuse-spec : {M : Type 1} → statement M
-refuse-spec = tie.close (tie.spec (λ c. tells-some _ _ (c .pre)))

@@ -1,0 +1,136 @@
+// Refusals 6 and 7: the type entries and the records' fields. Each is a scan that stops at the lowest fault.
+ghost use mathlib.Core.Path.{_≡_};
+ghost use Prim.Native.Nat.{_-_, _≤_};
+ghost use lib.ListN.{length};
+ghost use lib.Dec.{eqb};
+ghost use Rattle.rules.specs.Conditions.{between, sameEntry, met, holds};
+ghost use Rattle.rules.specs.Format.{recordNo};
+ghost use Rattle.rules.specs.Meant.{editionMeant};
+ghost use Rattle.rules.specs.Refusals.{badEntry, badField, lowest};
+ghost use Rattle.rules.specs.Check.{kindRule, alike, entryRule, fieldsRule};
+ghost use Rattle.records.specs.View.{entriesIn, recordsIn};
+ghost use Rattle.records.specs.Meant.{entryMeant, recordMeant};
+ghost use Rattle.refusals.specs.Tells.{Tells};
+ghost use Rattle.records.specs.Places.{Within};
+ghost use Rattle.fields.specs.Sizes.{Sized};
+ghost use Rattle.fields.specs.Fields.{FieldTested, FieldsTested};
+use records::Entry;
+use records::Record;
+use refusals::Verdict;
+use rules::Edition;
+use rules::both;
+use rules::in_range;
+
+// Whether two entries are the same.
+fn same_entry(x: Entry, y: Entry) -> bool
+    ensures { λ r. ⌜ r ≡ sameEntry (entryMeant x) (entryMeant y) ⌝ }
+{
+    both(x.kind == y.kind, both(x.a == y.a, x.b == y.b))
+}
+
+// Whether x is the number of an entry before entry n.
+fn is_earlier(x: u16, n: u16) -> bool
+    requires { ⌜ 1 ≤ n ⌝ }
+    ensures { λ r. ⌜ r ≡ met (between 1 x (n - 1)) ⌝ }
+{
+    in_range(1, x as u32, (n - 1) as u32)
+}
+
+// Whether entry n, e, is of a kind that there is, and its parts are earlier entries.
+fn kind_ok(e: Entry, n: u16) -> bool
+    requires { ⌜ 1 ≤ n ⌝ }
+    ensures { λ r. ⌜ r ≡ holds (kindRule n (entryMeant e)) ⌝ }
+{
+    let kind = e.kind;
+    match kind {
+        1 => both(e.a == 0, e.b == 0),
+        2 => both(is_earlier(e.a, n), is_earlier(e.b, n)),
+        3 => both(is_earlier(e.a, n), e.b == 0),
+        _ => false,
+    }
+}
+
+// Whether no entry before entry n is like it.
+fn alone(table: &[u8], n: u16) -> bool
+    requires { ⌜ Within (entriesIn (now table)) n ⌝ }
+    ensures { λ r. ⌜ r ≡ eqb (alike (entriesIn (now (table .entry))) n) 0 ⌝ }
+{
+    let e = records::entry_no(table, n);
+    let mut m: u16 = 1;
+    while m < n {
+        if same_entry(records::entry_no(table, m), e) {
+            return false;
+        }
+        m += 1;
+    }
+    true
+}
+
+// Whether entry n is good.
+fn entry_ok(table: &[u8], n: u16) -> bool
+    requires { ⌜ Within (entriesIn (now table)) n ⌝ }
+    ensures { λ r. ⌜ r ≡ holds (entryRule (entriesIn (now (table .entry))) n) ⌝ }
+{
+    both(alone(table, n), kind_ok(records::entry_no(table, n), n))
+}
+
+// Refusal 6: the lowest entry that is bad.
+pub fn entries_refusal(table: &[u8], types: u16) -> Verdict
+    requires { ⌜ length (entriesIn (now table)) ≡ types ⌝ }
+    ensures { λ r. ⌜ Tells r (lowest (entryRule (entriesIn (now (table .entry)))) badEntry 1 types) ⌝ }
+{
+    let mut n: u16 = 0;
+    while n < types {
+        n += 1;
+        if !entry_ok(table, n) {
+            return refusals::refuse(refusals::BAD_ENTRY, n);
+        }
+    }
+    refusals::no_refusal()
+}
+
+// Whether a field x is good for the use with that number, where there are `types` entries. 0: it is unused, and 0. 2: it names an entry.
+// An index and a number may be any.
+fn field_ok(usage: u16, types: u16, x: u32) -> bool
+    ensures { λ r. ⌜ FieldTested usage types x r ⌝ }
+{
+    match usage {
+        0 => x == 0,
+        2 => in_range(1, x, types as u32),
+        _ => true,
+    }
+}
+
+// Whether a record's kind is one of the edition's and its fields are good, where there are `types` entries.
+fn fields_ok(types: u16, r: Record, edition: Edition) -> bool
+    ensures { λ q. ⌜ FieldsTested (editionMeant edition) types (recordMeant r) q ⌝ }
+{
+    let kind = r.kind;
+    let known = in_range(1, kind as u32, edition.last_kind as u32);
+    let ty = in_range(1, r.ty as u32, types as u32);
+    let a = field_ok(rules::use_of_a(kind), types, r.a as u32);
+    let b = field_ok(rules::use_of_b(kind), types, r.b as u32);
+    let value = field_ok(rules::use_of_value(kind), types, r.value);
+    both(known, both(ty, both(a, both(b, value))))
+}
+
+// Refusal 7: the lowest record with a bad kind, type, a, b or value.
+pub fn fields_refusal(
+    table: &[u8],
+    types: u16,
+    records: &[u8],
+    count: u16,
+    edition: Edition,
+) -> Verdict
+    requires { ⌜ Sized (entriesIn (now table)) types (recordsIn (now records)) count ⌝ }
+    ensures { λ r. ⌜ Tells r (lowest (λ n. fieldsRule (editionMeant edition) (entriesIn (now (table .entry))) (recordNo (recordsIn (now (records .entry))) n)) badField 1 count) ⌝ }
+{
+    let mut n: u16 = 0;
+    while n < count {
+        n += 1;
+        if !fields_ok(types, records::record_no(records, n), edition) {
+            return refusals::refuse(refusals::BAD_FIELD, n);
+        }
+    }
+    refusals::no_refusal()
+}

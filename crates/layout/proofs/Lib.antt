@@ -1,5 +1,0 @@
--- The laws by which the code is proved, a file for each part of it.
-pub mod Scanning
-pub mod Entering
-pub mod Fielding
-pub mod Chaining

@@ -1,4 +1,0 @@
--- What the contracts of the crate cite.
-pub mod Counts
-pub mod Fields
-pub mod Chains

@@ -1,0 +1,52 @@
+-- Programs at the limits of the counts are passed.
+use Prim.Native.Nat.{ℕ, zero, suc, _+_, _*_}
+use native.Mathlib.Omega.{arith}
+use mathlib.Core.List.{[]}
+use mathlib.Core.Path.{_≡_, refl, ap}
+use Rattle.rules.specs.Lists.{listed, joined, total}
+use Rattle.rules.specs.Kinds.{kindOf, numbered}
+use Rattle.rules.specs.Editions.{firstEdition}
+use Rattle.rules.specs.Terms.{size, typeOf}
+use Rattle.rules.specs.Types.{Code}
+use Rattle.rules.specs.Typing.{Typed}
+use Rattle.rules.specs.Format.{tableOf, recordsOf, programBytes}
+use Rattle.rules.specs.Links.{laid, treeOf}
+use Rattle.rules.specs.Refusals.{unless, _then_, lowest}
+use Rattle.rules.specs.Check.{walked, refusalOf, refusal, checkAnswer}
+use Rattle.rules.specs.WholeRun.{Passed}
+use Rattle.rules.specs.BenchSheet.{table, natCode, num}
+use Rattle.rules.specs.Limits.{codes, nested, LimitsPassed}
+use Rattle.rules.proofs.General.{length-listed}
+use Rattle.rules.proofs.Written.{GoodTable, term-passed}
+use Rattle.rules.proofs.Sheets.{passed-by, passed-good}
+use Rattle.rules.proofs.Bench.{sheet-holds}
+
+codes-passed : Passed firstEdition codes (num 7)
+unfolding size listed tableOf recordsOf laid joined programBytes unless _then_ lowest total walked refusalOf refusal checkAnswer kindOf numbered treeOf
+codes-passed = passed-by refl refl refl
+
+nested-type : (n : ℕ) → typeOf (nested n) ≡ natCode
+nested-type zero = refl
+nested-type (suc n) = refl
+
+nested-typed : (n : ℕ) → Typed table [] 0 (nested n)
+unfolding Typed
+nested-typed zero = (((omega arith, (refl, (refl, (refl, tt)))), tt, (refl, tt), (refl, tt)), ((omega arith, (refl, (refl, (omega arith, tt)))), tt, tt, (refl, tt)))
+nested-typed (suc n) =
+    (((omega arith, (refl, (refl, (refl, tt)))), tt, (refl, tt), (refl, tt)), (((omega arith, (refl, (refl, (refl, tt)))), tt, (refl, tt), (rw (nested-type n) refl, tt)), nested-typed n))
+
+nested-size : (n : ℕ) → size (nested n) ≡ 2 + 2 * n
+unfolding size
+nested-size zero = refl
+nested-size (suc n) = omega (arith, nested-size n)
+
+good : GoodTable table
+good = passed-good firstEdition (omega arith) table _ (sheet-holds .0 .passed)
+
+pub limits-passed : LimitsPassed
+limits-passed = record {
+  types = ap suc (length-listed Code 1 255);
+  types-passed = codes-passed;
+  records = nested-size 1023;
+  records-passed = term-passed table (nested 1023) good (nested-typed 1023) (omega (arith, nested-size 1023)) firstEdition (omega arith);
+}
