@@ -28,3 +28,6 @@ pub mod Limits
 pub mod Small
 pub mod Readings
 pub mod Moving
+pub mod Shifts
+pub mod FreeBounds
+pub mod ChangedBounds

@@ -32,7 +32,7 @@ later-at [] i l h = absurd (omega arith)
 later-at (b ∷ Γ) zero l h = l .0
 later-at (b ∷ Γ) (suc i) l h = later-at Γ i (l .1) (omega arith)
 
-later-under : (l : ℕ) (k : Unary) (f : Fields) (Γ : Env) → T (stepsChild l (unary₁ k) 0) → Later Γ → Later (under l (binds₁ k f) Γ)
+pub later-under : (l : ℕ) (k : Unary) (f : Fields) (Γ : Env) → T (stepsChild l (unary₁ k) 0) → Later Γ → Later (under l (binds₁ k f) Γ)
 later-under l function f Γ en h = (eqb→eq l 1 (entered l function en), h)
 later-under l fix f Γ en h = h
 later-under l lift f Γ en h = h
@@ -76,7 +76,7 @@ enters-it (suc zero) quote f t b (p, _) n = absurd (omega arith)
 enters-it (suc zero) splice f t b p n = tt
 enters-it (suc (suc l)) k f t b p n = absurd (omega arith)
 
-level-low : (l : ℕ) (k : Unary) → l ≤ 1 → level₁ k l ≤ 1
+pub level-low : (l : ℕ) (k : Unary) → l ≤ 1 → level₁ k l ≤ 1
 level-low l function b = b
 level-low l fix b = b
 level-low l lift b = b
@@ -130,7 +130,7 @@ module _ (types : Table) where
   goes (suc l) Γ (ternary (match matchVariable) f t s e) b y ((_, _, (p, _), _), _, _, _) n = absurd (omega arith)
   goes (suc l) Γ (ternary (match (matchShape k)) f t s e) b y ((_, _, (p, _), _), _, _, _) n = absurd (omega arith)
 
-  value-or : {A : Type 0} (b : Bool) (o : Option A) → (T (not b) → IsSome o) → T b ⊎ ((x : A) × (o ≡ some x))
+  pub value-or : {A : Type 0} (b : Bool) (o : Option A) → (T (not b) → IsSome o) → T b ⊎ ((x : A) × (o ≡ some x))
   value-or true o g = inl tt
   value-or false none g = absurd (g tt)
   value-or false (some x) g = inr (x, refl)

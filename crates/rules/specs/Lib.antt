@@ -21,6 +21,9 @@ pub mod Sought
 pub mod Contractions
 pub mod Steps
 pub mod Next
+-- Words of our own on indices: how far the free ones reach, and how a tree is shifted.
+pub mod FreeBounds
+pub mod Shifts
 -- "Check and run", and demand 3.
 pub mod Refusals
 pub mod Check

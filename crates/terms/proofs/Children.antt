@@ -12,29 +12,14 @@ use Rattle.rules.proofs.KindTable.{kind-back}
 use Rattle.rules.proofs.Laid.{size-some}
 use Rattle.terms.specs.Preorder.{head, preorder, At}
 use Rattle.terms.proofs.Trees.{at-head}
-
--- The children of a term's root.
-unfoldable pub kids : Term → List Term
-kids (leaf k f) = []
-kids (unary k f t) = t ∷ []
-kids (binary k f t u) = t ∷ u ∷ []
-kids (ternary k f t s e) = t ∷ s ∷ e ∷ []
-
--- How many records trees have, and which.
-unfoldable pub sizes : List Term → ℕ
-sizes [] = 0
-sizes (t ∷ ts) = size t + sizes ts
-
-unfoldable pub preorders : List Term → List Record
-preorders [] = []
-preorders (t ∷ ts) = preorder t ++ preorders ts
+unfoldable pub use Rattle.terms.specs.Children.{kids, sizes, preorders}
 
 -- The records from i on begin with those of the trees.
 unfoldable pub AtAll : List Record → ℕ → List Term → Type 0
 AtAll rs i [] = Unit {0}
 AtAll rs i (t ∷ ts) = At rs i t × AtAll rs (i + size t) ts
 
-sizes-append : (ts us : List Term) → sizes (ts ++ us) ≡ sizes ts + sizes us
+pub sizes-append : (ts us : List Term) → sizes (ts ++ us) ≡ sizes ts + sizes us
 unfolding sizes
 sizes-append [] us = omega arith
 sizes-append (t ∷ ts) us = omega (arith, sizes-append ts us)

@@ -6,7 +6,6 @@ pub mod Storing
 pub mod Children
 pub mod Forests
 pub mod Skipping
-pub mod PlainScan
 pub mod Moving
 pub mod Numbered
 pub mod Chains

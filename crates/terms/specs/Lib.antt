@@ -1,5 +1,5 @@
 -- A term in a list of records, and what the contracts of the crate say of it.
 pub mod Preorder
-pub mod Plainness
+pub mod Children
 pub mod Moves
 pub mod Loads

@@ -5,7 +5,6 @@ ghost use Rattle.rules.specs.Format.{recordNo};
 ghost use Rattle.rules.specs.Links.{treeOf};
 ghost use Rattle.records.specs.View.{recordsIn};
 ghost use Rattle.terms.specs.Preorder.{preorder, HasTree, Skips, Stored};
-ghost use Rattle.terms.specs.Plainness.{TellsPlain};
 ghost use Rattle.terms.specs.Moves.{CanMove, Moved};
 ghost use Rattle.records.specs.Places.{Within};
 ghost use Rattle.terms.specs.Loads.{CanPutRoot, PutsRoot, CanLoad};
@@ -23,26 +22,6 @@ pub fn skip(w: &[u8], i: usize) -> usize
         at += 1;
     }
     at
-}
-
-// Whether the tree at `i` is plain.
-pub fn is_plain_at(w: &[u8], i: usize) -> bool
-    requires { ⌜ HasTree (recordsIn (now w)) i ⌝ }
-    ensures { λ r. ⌜ TellsPlain (recordsIn (now (w .entry))) i r ⌝ }
-{
-    let mut at = i;
-    let mut unseen: usize = 1;
-    while 0 < unseen {
-        let r = records::get(w, at);
-        let kind = r.kind;
-        if rules::is_plain(kind) {
-            unseen = unseen - 1 + rules::children(kind) as usize;
-            at += 1;
-        } else {
-            return false;
-        }
-    }
-    true
 }
 
 // Copies the `n` records from `src` on to `dst`, as they are: byte by byte, of which the compiler makes moves of many bytes at once.

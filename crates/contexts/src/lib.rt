@@ -1,0 +1,1 @@
+// Evaluation contexts: definitions and theorems, and no code so far.
