@@ -1,6 +1,6 @@
 // Refusals 6 and 7: the type entries and the records' fields. Each is a scan that stops at the lowest fault.
 ghost use mathlib.Core.Path.{_≡_};
-ghost use Prim.Native.Nat.{_-_, _≤_};
+ghost use Prim.Native.Nat.{_-_, _*_, _≤_, _<_};
 ghost use lib.ListN.{length};
 ghost use lib.Dec.{eqb};
 ghost use Rattle.rules.specs.Conditions.{between, sameEntry, met, holds};
@@ -14,6 +14,8 @@ ghost use Rattle.refusals.specs.Tells.{Tells};
 ghost use Rattle.records.specs.Places.{Within};
 ghost use Rattle.fields.specs.Sizes.{Sized};
 ghost use Rattle.fields.specs.Fields.{FieldTested, FieldsTested};
+ghost use Rattle.fields.specs.BitSets.{Inserted};
+ghost use Rattle.fields.specs.Noting.{CanNote, Notes, CanScanTable};
 use records::Entry;
 use records::Record;
 use refusals::Verdict;
@@ -74,8 +76,8 @@ fn entry_ok(table: &[u8], n: u16) -> bool
     both(alone(table, n), kind_ok(records::entry_no(table, n), n))
 }
 
-// Refusal 6: the lowest entry that is bad.
-pub fn entries_refusal(table: &[u8], types: u16) -> Verdict
+// Refusal 6, each entry compared with each earlier one.
+fn pairs_refusal(table: &[u8], types: u16) -> Verdict
     requires { ⌜ length (entriesIn (now table)) ≡ types ⌝ }
     ensures { λ r. ⌜ Tells r (lowest (entryRule (entriesIn (now (table .entry)))) badEntry 1 types) ⌝ }
 {
@@ -87,6 +89,62 @@ pub fn entries_refusal(table: &[u8], types: u16) -> Verdict
         }
     }
     refusals::no_refusal()
+}
+
+// Puts k into a set of numbers, and says whether it was not in it.
+fn insert(set: &mut [u64], k: usize) -> bool
+    requires { ⌜ k < 64 * length (now set) ⌝ }
+    ensures { λ r. ⌜ Inserted (now (set .entry)) (now (set .exit)) k r ⌝ }
+{
+    let word = set[k / 64];
+    let bit = (k % 64) as u32;
+    if (word >> bit) % 2 == 1 {
+        return false;
+    }
+    set[k / 64] = word + (1u64 << bit);
+    true
+}
+
+// Whether entry n is good, where the parts of the entries before it are noted in the set. Where it is good, its own are noted too.
+fn note(table: &[u8], seen: &mut [u64], n: u16) -> bool
+    requires { ⌜ CanNote (entriesIn (now table)) (now seen) n ⌝ }
+    ensures { λ r. ⌜ Notes (entriesIn (now (table .entry))) (now (seen .exit)) n r ⌝ }
+{
+    let e = records::entry_no(table, n);
+    if !kind_ok(e, n) {
+        return false;
+    }
+    insert(seen, 256 * (e.a as usize) + (e.b as usize))
+}
+
+// Refusal 6, each entry looked up in the set of the parts noted, which is empty at first.
+fn set_refusal(table: &[u8], seen: &mut [u64], types: u16) -> Verdict
+    requires { ⌜ CanScanTable (entriesIn (now table)) (now seen) types ⌝ }
+    ensures { λ r. ⌜ Tells r (lowest (entryRule (entriesIn (now (table .entry)))) badEntry 1 types) ⌝ }
+{
+    let mut n: u16 = 0;
+    while n < types {
+        n += 1;
+        if !note(table, seen, n) {
+            return refusals::refuse(refusals::BAD_ENTRY, n);
+        }
+    }
+    refusals::no_refusal()
+}
+
+// Refusal 6: the lowest entry that is bad. Few entries are sooner compared each with each than a set is cleared, and the set has no place for the
+// parts of more than 256.
+pub fn entries_refusal(table: &[u8], types: u16) -> Verdict
+    requires { ⌜ length (entriesIn (now table)) ≡ types ⌝ }
+    ensures { λ r. ⌜ Tells r (lowest (entryRule (entriesIn (now (table .entry)))) badEntry 1 types) ⌝ }
+{
+    match types {
+        17..=256 => {
+            let mut seen = [0u64; 1024];
+            set_refusal(table, &mut seen, types)
+        }
+        _ => pairs_refusal(table, types),
+    }
 }
 
 // Whether a field x is good for the use with that number, where there are `types` entries. 0: it is unused, and 0. 2: it names an entry.
