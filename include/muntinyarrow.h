@@ -1,5 +1,6 @@
 /* Muntinyarrow: a proved engine for the two-level generator language. Link with libengine.a.
- * The calls keep no state: any number of them may go on at once, each with its own buffers. */
+ * The calls keep no state: any number of them may go on at once, each with its own buffers. The program and the buffers of one call must not
+ * overlap. Where a length is 0 its pointer is not read, and may be anything. */
 #ifndef MUNTINYARROW_H
 #define MUNTINYARROW_H
 
@@ -38,8 +39,8 @@ struct muntinyarrow_run_answer {
 /* Checks a program of any bytes. */
 struct muntinyarrow_check_answer muntinyarrow_check(const uint8_t *program, size_t length);
 
-/* Runs a program of any bytes with the fuel. The output gets the same type table and the last term; its bytes beyond the written length stay, and
- * so do those of both buffers where the run is refused. The first 65,536 bytes of the work buffer are then free, the others stay. */
+/* Runs a program of any bytes with the fuel. The output gets the same type table and the last term; its bytes beyond the written length stay. After
+ * an accepted run the first 65,536 bytes of the work buffer hold what they may, and the others stay. A refused run changes no byte of either. */
 struct muntinyarrow_run_answer muntinyarrow_run(const uint8_t *program, size_t length, uint32_t fuel, uint8_t *output, size_t output_length,
                                                 uint8_t *work, size_t work_length);
 
