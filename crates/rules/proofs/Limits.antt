@@ -1,4 +1,4 @@
--- Programs at the limits of the counts are passed.
+-- Programs at the limits of the counts are passed, and an index beyond its field is not.
 use Prim.Native.Nat.{ℕ, zero, suc, _+_, _*_}
 use native.Mathlib.Omega.{arith}
 use mathlib.Core.List.{[]}
@@ -6,7 +6,7 @@ use mathlib.Core.Path.{_≡_, refl, ap}
 use Rattle.rules.specs.Lists.{listed, joined, total}
 use Rattle.rules.specs.Kinds.{kindOf, numbered}
 use Rattle.rules.specs.Editions.{firstEdition}
-use Rattle.rules.specs.Terms.{size, typeOf}
+use Rattle.rules.specs.Terms.{Term, leaf, unary, binary, ternary, size, typeOf}
 use Rattle.rules.specs.Types.{Code}
 use Rattle.rules.specs.Typing.{Typed}
 use Rattle.rules.specs.Format.{tableOf, recordsOf, programBytes}
@@ -14,7 +14,7 @@ use Rattle.rules.specs.Links.{laid, treeOf}
 use Rattle.rules.specs.Refusals.{unless, _then_, lowest}
 use Rattle.rules.specs.Check.{walked, refusalOf, refusal, checkAnswer}
 use Rattle.rules.specs.WholeRun.{Passed}
-use Rattle.rules.specs.BenchSheet.{table, natCode, num}
+use Rattle.rules.specs.BenchSheet.{table, nat, natToNat, natCode, num, var, fun}
 use Rattle.rules.specs.Limits.{codes, nested, LimitsPassed}
 use Rattle.rules.proofs.General.{length-listed}
 use Rattle.rules.proofs.Written.{GoodTable, term-passed}
@@ -50,3 +50,16 @@ limits-passed = record {
   records = nested-size 1023;
   records-passed = term-passed table (nested 1023) good (nested-typed 1023) (omega (arith, nested-size 1023)) firstEdition (omega arith);
 }
+
+-- The index of the variable in a chain of records with one child.
+indexIn : Term → ℕ
+indexIn (leaf k f) = f .a
+indexIn (unary k f t) = indexIn t
+indexIn (binary k f t u) = 0
+indexIn (ternary k f t s e) = 0
+
+-- A function whose variable has index 65536, which names no binder, is not passed, though the bytes that are written of it are: sixteen bits cut
+-- the index to 0.
+pub cut-index-passed-not : Passed firstEdition table (fun natToNat nat (var nat 65536)) → ⊥
+unfolding size listed tableOf recordsOf laid joined programBytes kindOf numbered treeOf indexIn
+cut-index-passed-not p = let e : _≡_ {A = ℕ} 0 65536 = ap indexIn (p .term-back) in omega arith
