@@ -18,7 +18,7 @@ use Rattle.contexts.specs.Sides.{rightSize, topPlace, leftRecords, right
 use Rattle.contexts.proofs.Contexts.{root-filled}
 
 -- The children of a frame's tree: those before the hole, what fills it, and those after it.
-kids-filled : (F : Frame) (t : Term) → kids (fill F t) ≡ childrenBefore F ++ (t ∷ childrenAfter F)
+pub kids-filled : (F : Frame) (t : Term) → kids (fill F t) ≡ childrenBefore F ++ (t ∷ childrenAfter F)
 unfolding kids
 kids-filled (only k f) t = refl
 kids-filled (first k f u) t = refl

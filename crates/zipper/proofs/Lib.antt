@@ -1,0 +1,23 @@
+-- What is true of a term laid out around its focus.
+pub mod There
+pub mod Measures
+pub mod Sides
+pub mod Places
+pub mod Moves
+pub mod Closed
+pub mod Opened
+pub mod Readings
+pub mod Joined
+pub mod Rows
+pub mod Closing
+pub mod Wholes
+pub mod Opening
+pub mod Onward
+pub mod Turns
+pub mod Climbing
+pub mod Redexes
+pub mod RaisedRoots
+pub mod RaisedCopies
+pub mod ReplacedRoots
+pub mod ReplacedCopies
+pub mod Downward

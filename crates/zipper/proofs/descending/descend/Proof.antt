@@ -1,0 +1,26 @@
+-- `descend` meets its contract: at each turn the focus is nearer to the tree. Assumes nothing.
+use Prim.Native.Nat.{_-_}
+use mathlib.Core.Path.{_≡_}
+use lib.ListN.{length}
+use borrow.Author.Needs.{needs}
+use Rattle.records.specs.View.{recordsIn}
+use Rattle.zipper.proofs.Downward.{Deepening, deepening}
+use Rattle.zipper.proofs.descending.descend.Statement.{statement}
+use Rattle.zipper.proofs.descending.descend.Tie as tie
+
+abbrev Inv-loop : tie.InvT-loop
+Inv-loop w₀ p at₀ w at = (length w ≡ length w₀) × Deepening (recordsIn w₀) at₀ p (recordsIn w) at
+
+abbrev μ-loop : tie.MeasureT-loop
+μ-loop w₀ p at₀ w at = p - at .focus .s
+
+pub descend-spec : {M : Type 1} → statement M
+descend-spec =
+    tie.close (tie.spec Inv-loop μ-loop
+    (λ c. search (deepening, needs))  -- loop-holds
+    (λ c κs. search (deepening, needs))  -- go-down-requires
+    (λ c. search (deepening, needs))  -- loop-less
+    (λ c. search (deepening, needs))  -- loop-again
+    (λ c. search (deepening, needs))  -- same-length
+    (λ c. search (deepening, needs))  -- returns
+    )
