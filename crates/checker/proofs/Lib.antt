@@ -1,3 +1,4 @@
--- The laws by which the checks are put together.
+-- The laws by which the checks are put together, and what is passed at the limits.
 pub mod Ordering
 pub mod Counts
+pub mod Limits

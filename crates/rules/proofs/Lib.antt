@@ -24,7 +24,6 @@ pub mod Written
 pub mod Whole
 pub mod Sheets
 pub mod Bench
-pub mod Limits
 pub mod Small
 pub mod Readings
 pub mod Moving

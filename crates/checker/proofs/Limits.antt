@@ -1,25 +1,26 @@
--- Programs at the limits of the counts are passed, and an index beyond its field is not.
+-- Programs at the limits of the counts are passed, and an index beyond its field is not. This is about the rules alone; it stands here since the check
+-- of 256 entries is computed, which takes seconds that every must-fail edit of `rules` would take too.
 use Prim.Native.Nat.{ℕ, zero, suc, _+_, _*_}
 use native.Mathlib.Omega.{arith}
 use mathlib.Core.List.{[]}
 use mathlib.Core.Path.{_≡_, refl, ap}
 use Rattle.rules.specs.Lists.{listed, joined, total}
 use Rattle.rules.specs.Kinds.{kindOf, numbered}
 use Rattle.rules.specs.Editions.{firstEdition}
 use Rattle.rules.specs.Terms.{Term, leaf, unary, binary, ternary, size, typeOf}
 use Rattle.rules.specs.Types.{Code}
 use Rattle.rules.specs.Typing.{Typed}
 use Rattle.rules.specs.Format.{tableOf, recordsOf, programBytes}
 use Rattle.rules.specs.Links.{laid, treeOf}
 use Rattle.rules.specs.Refusals.{unless, _then_, lowest}
 use Rattle.rules.specs.Check.{walked, refusalOf, refusal, checkAnswer}
 use Rattle.rules.specs.WholeRun.{Passed}
 use Rattle.rules.specs.BenchSheet.{table, nat, natToNat, natCode, num, var, fun}
 use Rattle.rules.specs.Limits.{codes, nested, LimitsPassed}
 use Rattle.rules.proofs.General.{length-listed}
 use Rattle.rules.proofs.Written.{GoodTable, term-passed}
 use Rattle.rules.proofs.Sheets.{passed-by, passed-good}
 use Rattle.rules.proofs.Bench.{sheet-holds}
 
 codes-passed : Passed firstEdition codes (num 7)
 unfolding size listed tableOf recordsOf laid joined programBytes unless _then_ lowest total walked refusalOf refusal checkAnswer kindOf numbered treeOf
