@@ -5,7 +5,18 @@ use crate::muntinyarrow::Ending;
 use crate::programs::{Builder, Term};
 
 pub fn all() -> Vec<Workload> {
-    vec![spin(), growth(), inert_before(), inert_after(), spine_right(), spine_collapse(), spine_left(), cascade()]
+    vec![
+        spin(),
+        growth(),
+        inert_before("inert part before the redex, 200", 200),
+        inert_before("inert part before the redex, 2,000", 2_000),
+        inert_after("inert part after the redex, 200", 200),
+        inert_after("inert part after the redex, 2,000", 2_000),
+        spine_right(),
+        spine_collapse(),
+        spine_left(),
+        cascade(),
+    ]
 }
 
 /// The least term that never ends: what one step costs apart from the size of the term.
@@ -22,19 +33,20 @@ fn growth() -> Workload {
     Workload::run("growth to the limit", build.program(&root), 1_000, Ending::Full, 680)
 }
 
-/// A small redex after a large value: the function is ready and large, its argument spins.
-fn inert_before() -> Workload {
+/// A small redex after a value that takes nearly all of the records: the function is ready, its argument spins. There are so many steps that the check
+/// and the writing don't count.
+fn inert_before(name: &'static str, records: usize) -> Workload {
     let build = Builder::default();
-    let function = build.function(build.nat(), inert(&build, 1_995, 1));
+    let function = build.function(build.nat(), inert(&build, records - 5, 1));
     let root = build.application(function, spinning(&build));
-    Workload::run("inert part before the redex", build.program(&root), 5_000, Ending::Spent, 5_000)
+    Workload::run(name, build.program(&root), 100_000, Ending::Spent, 100_000)
 }
 
-/// A small redex before a large tree that is not reached: the function spins, its argument waits.
-fn inert_after() -> Workload {
+/// A small redex before a tree that is not reached and takes nearly all of the records: the function spins, its argument waits.
+fn inert_after(name: &'static str, records: usize) -> Workload {
     let build = Builder::default();
-    let root = build.application(spinning_function(&build), inert(&build, 1_996, 0));
-    Workload::run("inert part after the redex", build.program(&root), 5_000, Ending::Spent, 5_000)
+    let root = build.application(spinning_function(&build), inert(&build, records - 4, 0));
+    Workload::run(name, build.program(&root), 100_000, Ending::Spent, 100_000)
 }
 
 /// A redex below 660 waiting applications, rewritten in place: the way down to it is most of the work.
