@@ -3,17 +3,21 @@ use Prim.Native.Nat.{ℕ, _+_}
 use native.Mathlib.Omega.{arith}
 use native.Mathlib.Nat.{zero-add}
 use mathlib.Core.List.{[], _∷_, _++_}
+use mathlib.Core.Bool.{false}
 use mathlib.Core.Logic.{_⊎_}
+use mathlib.Core.Option.{some}
 use mathlib.Core.Path.{_≡_, refl, sym, ap, _∙_}
 use lib.Dec.{T}
 use Rattle.rules.specs.Terms.{Term, rootKind}
-use Rattle.rules.specs.Types.{Table}
+use Rattle.rules.specs.Types.{Table, NoTwins}
 use Rattle.rules.specs.Typing.{Typed}
-use Rattle.rules.specs.Values.{done}
+use Rattle.rules.specs.Values.{value, done}
 use Rattle.rules.specs.Contractions.{StepRule, Contraction, contracts}
 use Rattle.rules.specs.Steps.{Event, atRoot, further, here, Step}
-use Rattle.rules.specs.Next.{Next}
-use Rattle.rules.proofs.Agree.{same-event}
+use Rattle.rules.specs.Next.{Next, next}
+use Rattle.rules.proofs.General.{is-false}
+use Rattle.rules.proofs.Agree.{same-event, rests, agree}
+use Rattle.rules.proofs.Preserved.{preserved}
 use Rattle.terms.specs.Children.{sizes}
 use Rattle.contexts.specs.Contexts.{childrenBefore, Context, plug, levelAt, bindersAt, leftSize, Evaluation}
 use Rattle.contexts.specs.Moving.{Ready}
@@ -64,3 +68,15 @@ module _ (types : Table) (C : Context) (t : Term) (v : Evaluation 0 C) (h : Type
   -- It is rewritten, where the children that it steps are done and its kind is one that is rewritten.
   pub focus-contracts : Ready (levelAt 0 C) t → T (contracts (levelAt 0 C) (rootKind t)) → (m : Next) × Contraction types (levelAt 0 C) (m .event .rule) (m .event .replaced) t (m .term)
   focus-contracts = ready-redex types (levelAt 0 C) (bindersAt 0 [] C) t (levels-low 0 C (omega arith)) (later-inside 0 [] C v tt) (typed-inside types 0 [] C t h)
+
+-- The term in which a contraction is made in an evaluation context: it is no value, its next term is the contractum in the context, and that keeps the
+-- rules too.
+module _ (types : Table) (C : Context) (t u : Term) (r : StepRule) (n : ℕ) (v : Evaluation 0 C) (c : Contraction types (levelAt 0 C) r n t u) where
+  pub contracted-next : next types 0 (plug C t) ≡ some (record { event = further (leftSize C) (atRoot r n); term = plug C u })
+  contracted-next = agree types 0 (further (leftSize C) (atRoot r n)) (plug C t) (plug C u) .1 (contracts-plugged 0 C v c)
+
+  pub contracted-no-value : value (plug C t) ≡ false
+  contracted-no-value = is-false (value (plug C t)) (rests types (contracts-plugged 0 C v c))
+
+  pub contracted-typed : NoTwins types → Typed types [] 0 (plug C t) → Typed types [] 0 (plug C u)
+  contracted-typed unlike h = preserved types unlike (contracts-plugged 0 C v c) [] h .0

@@ -99,7 +99,7 @@ unfolding plug levelAt
 whole-value t d = d
 
 -- What is done isn't of a kind that is rewritten at its level.
-done-stays : (l : ℕ) (t : Term) → T (done l t) → T (contracts l (rootKind t)) → ⊥
+pub done-stays : (l : ℕ) (t : Term) → T (done l t) → T (contracts l (rootKind t)) → ⊥
 unfolding plain value
 done-stays l (leaf k f) d c = c
 done-stays l (unary function f t) d c = c

@@ -1,11 +1,8 @@
--- The records of a term around a hole in preorder: those on its left, which are the frames' and those of the children before it, and those on
--- its right.
+-- The records of a term around a hole, in preorder: how many stand on its right, and where the innermost frame's record stands.
 use Prim.Native.Nat.{ℕ, _+_}
-use mathlib.Core.List.{List, [], _∷_, _++_}
-use Rattle.rules.specs.Format.{Record}
-use Rattle.rules.specs.Links.{linked}
-use Rattle.terms.specs.Children.{sizes, preorders}
-use Rattle.contexts.specs.Contexts.{Frame, frameKind, frameFields, childrenBefore, childrenAfter, Context, leftSize}
+use mathlib.Core.List.{[], _∷_}
+use Rattle.terms.specs.Children.{sizes}
+use Rattle.contexts.specs.Contexts.{childrenAfter, Context, leftSize}
 
 -- How many records stand on the right.
 unfoldable pub rightSize : Context → ℕ
@@ -16,16 +13,3 @@ rightSize (F ∷ C) = sizes (childrenAfter F) + rightSize C
 unfoldable pub topPlace : Context → ℕ
 topPlace [] = 0
 topPlace (F ∷ C) = leftSize C
-
--- The records on the left, where r gives a frame's record, from the frame and the place of the frame around it; and those on the right.
-unfoldable pub leftRecords : (Frame → ℕ → Record) → Context → List Record
-leftRecords r [] = []
-leftRecords r (F ∷ C) = leftRecords r C ++ (r F (topPlace C) ∷ preorders (childrenBefore F))
-
-unfoldable pub rightRecords : Context → List Record
-rightRecords [] = []
-rightRecords (F ∷ C) = preorders (childrenAfter F) ++ rightRecords C
-
--- A frame's record without links.
-abbrev pub bare : Frame → ℕ → Record
-bare F p = linked (frameKind F) (frameFields F) 0 0

@@ -1,7 +1,7 @@
 -- The run of a passed program, from its bytes to the written bytes: `accepting` for search.
 use Prim.Native.Nat.{ℕ, _+_, _*_, _-_}
 use native.Mathlib.Omega.{arith}
-use mathlib.Core.List.{List}
+use mathlib.Core.List.{List, []}
 use mathlib.Core.Path.{_≡_, sym, ap, ap₂, _∙_}
 use lib.ListN.{length, take, drop, length-take, length-drop}
 use mir.Syntax.{w32}
@@ -10,6 +10,7 @@ use Rattle.rules.specs.Editions.{firstEdition}
 use Rattle.rules.specs.Terms.{Term, typeOf}
 use Rattle.rules.specs.Format.{Record, typeCount, recordCount, tableOf, recordsOf}
 use Rattle.rules.specs.Links.{rootTree}
+use Rattle.rules.specs.Typing.{Typed}
 use Rattle.rules.specs.Check.{typeNo}
 use Rattle.rules.specs.Meets.{Meets}
 use Rattle.rules.specs.Run.{endingNumber, programCourse, outcomeOf, output, writtenOver}
@@ -22,9 +23,9 @@ use Rattle.records.proofs.Program.{program-table-slice, program-records-slice}
 use Rattle.records.proofs.Records.{records-length}
 use Rattle.steps.specs.declared.state.State.{State}
 use Rattle.steps.specs.Starting.{CanStart, Starts}
-use Rattle.steps.specs.Stepping.{Runs, HoldsTyped}
+use Rattle.steps.specs.Stepping.{HoldsTerm}
 use Rattle.steps.specs.Output.{CanWriteOut, WritesOut}
-use Rattle.steps.proofs.Running.{runs-first}
+use Rattle.steps.proofs.Values.{runs-few}
 use Rattle.engine.specs.Running.{endedAt}
 use Rattle.engine.specs.Looping.{CanRun, Stopped, RunsOut, Concluded, Concludes}
 use Rattle.engine.specs.Accepting.{CanAccept, Accepted}
@@ -46,46 +47,49 @@ module _ (p out work : List ℕ) (h : CanAccept p out work) (T R : ℕ) (eT : T 
   records-are : recordsOf p ≡ recordsIn (recordPart p T)
   records-are = program-records-slice p (m .exact) (4 + 6 * T) (omega (arith, eT))
 
+  first-typed : Typed (entriesIn (tablePart p T)) [] 0 (rootTree (recordsIn (recordPart p T)))
+  first-typed = rw (← table-is, ← records-are) (m .form .typed)
+
   pub accept-starts : CanStart (recordsIn (recordPart p T)) R (recordsIn work)
   accept-starts = record {
+    types = entriesIn (tablePart p T);
+    typed = first-typed;
     linked = form-linked firstEdition (omega arith) (tableOf p) (recordsIn (recordPart p T)) (rw (← records-are) (m .form));
     whole = rw (← records-are) (root-size firstEdition p m ∙ sym eR);
     counted = ap length (sym records-are) ∙ records-counted p ∙ sym eR;
     some = omega (arith, eR, m .counts .1 .0);
     few = omega (arith, eR, m .counts .1 .0);
-    room = omega (arith, records-length work, h .halves);
+    room = omega (arith, records-length work, h .long);
   }
 
   module _ (rs₁ : List Record) (s : State) (st : Starts (recordsIn (recordPart p T)) rs₁ s) where
     abbrev first : Term
     first = rootTree (recordsIn (recordPart p T))
 
-    runs : Runs (entriesIn (tablePart p T)) rs₁ s first
-    runs = runs-first (entriesIn (tablePart p T)) (recordsIn (recordPart p T)) rs₁ s (rw (← table-is, ← records-are) (m .form .typed)) st
+    holds : HoldsTerm (entriesIn (tablePart p T)) rs₁ s first
+    holds = st .holds (entriesIn (tablePart p T)) first-typed
 
     pub accept-runs : CanRun (entriesIn (tablePart p T)) rs₁ s
     accept-runs = record {
       term = first;
-      runs = runs;
-      running = st .status;
+      holds = holds;
+      going = st .going;
       none = st .steps;
       unlike = rw (← table-is) (unlike (tableOf p) (m .form .entries));
     }
 
     module _ (fuel : ℕ) (rs₂ : List Record) (q : State) (ro : RunsOut (entriesIn (tablePart p T)) fuel rs₁ rs₂ s q) where
       stopped : Stopped (entriesIn (tablePart p T)) fuel first rs₂ q
-      stopped = ro .does first runs
-
-      pub accept-holds : HoldsTyped rs₂ q
-      accept-holds = record { types = entriesIn (tablePart p T); term = stopped .last; runs = stopped .runs }
+      stopped = ro .does first holds
 
       table-long : length (tablePart p T) ≡ 6 * T
       table-long = omega (arith, length-take (4 + 6 * T - 4) (drop 4 p), length-drop 4 p, m .exact, eT)
 
       pub accept-writes : CanWriteOut (tablePart p T) T rs₂ q out
       accept-writes = record {
+        rules = entriesIn (tablePart p T);
         term = stopped .last;
-        holds = stopped .runs .holds;
+        runs = stopped .runs;
         entries = table-long;
         some-types = omega (arith, eT, m .counts .0);
         few-types = omega (arith, eT, m .counts .0);
@@ -94,11 +98,13 @@ module _ (p out work : List ℕ) (h : CanAccept p out work) (T R : ℕ) (eT : T 
 
       module _ (out′ : List ℕ) (w : ℕ) (wo : WritesOut (tablePart p T) T rs₂ q out out′ w) where
         pub accept-fits : Fits w32 w
-        accept-fits = omega (arith, wo .does (stopped .last) (stopped .runs .holds) .long, stopped .runs .holds .long, stopped .runs .holds .few, eT, m .counts .0)
+        accept-fits =
+            let few = runs-few (entriesIn (tablePart p T)) rs₂ q (stopped .last) (stopped .runs) in
+            omega (arith, wo .does (entriesIn (tablePart p T)) (stopped .last) (stopped .runs) .long, few, eT, m .counts .0)
 
-        module _ (e root : ℕ) (co : Concludes rs₂ q e) (er : root ≡ typeNo (recordsOf p) 1) where
+        module _ (e root : ℕ) (co : Concludes q e) (er : root ≡ typeNo (recordsOf p) 1) where
           concluded : Concluded (entriesIn (tablePart p T)) fuel first rs₂ q e
-          concluded = co .does (entriesIn (tablePart p T)) fuel first stopped
+          concluded = co .does (entriesIn (tablePart p T)) fuel first rs₂ stopped
 
           outcome-is : outcomeOf (programCourse p fuel) ≡ endedAt (concluded .ending) (q .steps) (concluded .last)
           outcome-is = rw (table-is, records-are) (concluded .outcome)
@@ -111,7 +117,7 @@ module _ (p out work : List ℕ) (h : CanAccept p out work) (T R : ℕ) (eT : T 
 
           pub accept-done : Accepted p fuel out out′ (record { number = 0; place = 0; ending = e; steps = q .steps; «root_type» = root; written = w })
           accept-done =
-              let b = wo .does (concluded .last) (concluded .runs .holds) in
+              let b = wo .does (entriesIn (tablePart p T)) (concluded .last) (concluded .runs) in
               record {
                 answer = λ i. record {
                   number = 0;
@@ -124,4 +130,4 @@ module _ (p out work : List ℕ) (h : CanAccept p out work) (T R : ℕ) (eT : T 
                 output = b .bytes ∙ ap (writtenOver out) (sym output-is);
               }
 
-pub ruleset accepting = (accept-starts, accept-runs, accept-holds, accept-writes, accept-fits, accept-done)
+pub ruleset accepting = (accept-starts, accept-runs, accept-writes, accept-fits, accept-done)

@@ -36,7 +36,7 @@ output-long o room = rw (lt-ltb outputNeeded (suc o) (omega arith))
 
 pub buffers-long : (p : List ℕ) (o w : ℕ) → outputNeeded ≤ o → workNeeded ≤ w → runRefusal firstEdition p o w ≡ refusal firstEdition p
 unfolding _then_ unless
-buffers-long p o w room halves = rw (output-long o room) (rw (lt-ltb workNeeded (suc w) (omega arith)))
+buffers-long p o w room long = rw (output-long o room) (rw (lt-ltb workNeeded (suc w) (omega arith)))
 
 module _ (p : List ℕ) (fuel : ℕ) (out work : List ℕ) (r : RunAnswer) where
   -- A refused call has the refusal's answer, and changes nothing.
@@ -60,22 +60,22 @@ module _ (p : List ℕ) (fuel : ℕ) (out work : List ℕ) (r : RunAnswer) where
     unfolding unless _then_
     work-short l a = ran-refused workShort 0 (rw (output-long (length out) room) (rw (le-ltb workNeeded (suc (length work)) (omega arith)))) a
 
-    module _ (halves : workNeeded ≤ length work) (e : Edition) (first : editionMeant e ≡ firstEdition) (f : Verdict) (told : Tells f (refusal (editionMeant e) p)) where
+    module _ (long : workNeeded ≤ length work) (e : Edition) (first : editionMeant e ≡ firstEdition) (f : Verdict) (told : Tells f (refusal (editionMeant e) p)) where
       t : Tells f (refusal firstEdition p)
       t = rw first at told
 
       pub program-refused : (f .number ≡ 0 → ⊥) → runMeant r ≡ refused (f .number) (f .place) → Ran p fuel out work r out work
-      program-refused n a = ran-refused (f .number) (f .place) (buffers-long p (length out) (length work) room halves ∙ some-number f (refusal firstEdition p) t n) a
+      program-refused n a = ran-refused (f .number) (f .place) (buffers-long p (length out) (length work) room long ∙ some-number f (refusal firstEdition p) t n) a
 
       module _ (z : f .number ≡ 0) where
         pub can-accept : CanAccept p out (take workNeeded work)
-        can-accept = record { passing = record { is = no-number f (refusal firstEdition p) t z }; room = room; halves = length-take-le workNeeded work halves }
+        can-accept = record { passing = record { is = no-number f (refusal firstEdition p) t z }; room = room; long = length-take-le workNeeded work long }
 
         pub run-accepted : (out′ part : List ℕ) → Accepted p fuel out out′ r → length part ≡ length (take workNeeded work) → Ran p fuel out work r out′ (part ++ drop workNeeded work)
         unfolding runAnswer runOutput
         run-accepted out′ part a e =
-            let n = buffers-long p (length out) (length work) room halves ∙ no-number f (refusal firstEdition p) t z in
-            let l : length part ≡ workNeeded = e ∙ length-take-le workNeeded work halves in
+            let n = buffers-long p (length out) (length work) room long ∙ no-number f (refusal firstEdition p) t z in
+            let l : length part ≡ workNeeded = e ∙ length-take-le workNeeded work long in
             record {
               answer = rw (n, runAnswer) (a .answer);
               output = rw (n, runOutput) (a .output);

@@ -4,16 +4,14 @@ use native.Mathlib.Omega.{arith}
 use mathlib.Core.Bool.{Bool, true, false}
 use mathlib.Core.List.{List}
 use mathlib.Core.Path.{_≡_, refl, sym, subst, _∙_}
+use lib.Dec.{T}
 use Rattle.rules.specs.Terms.{Term}
 use Rattle.rules.specs.Types.{Table}
 use Rattle.rules.specs.Values.{value}
 use Rattle.rules.specs.Format.{Record}
 use Rattle.rules.specs.Run.{valued, spent, full}
-use Rattle.rules.proofs.General.{is-true, is-false}
-use lib.Dec.{T-not}
 use Rattle.steps.specs.declared.state.State.{State}
-use Rattle.steps.specs.Stepping.{Runs, CanStep, After, running, value-found, too-large, Stepped, TellsValue}
-use Rattle.steps.proofs.Running.{runs-on}
+use Rattle.steps.specs.Stepping.{HoldsTerm, Runs, HasTerm, SeeksTerm, CanStep, After, running, too-large, Stepped, TellsValue}
 use Rattle.engine.specs.Running.{Running}
 use Rattle.engine.specs.Looping.{CanRun, Stop, by-fuel, by-value, by-room, Stopped, RunsOut, Concluded, Concludes}
 use Rattle.engine.proofs.Stepping.{run-starts, ends-value, ends-spent, ends-full, goes-on}
@@ -21,103 +19,131 @@ use Rattle.engine.proofs.Stepping.{run-starts, ends-value, ends-spent, 
 -- The run of the first term stands where the state is.
 pub record StandsAt (types : Table) (fuel : ℕ) (first : Term) (rs : List Record) (s : State) : Type 0 where
   pub term : Term
-  pub runs : Runs types rs s term
+  pub holds : HoldsTerm types rs s term
   pub stands : Running types fuel first (s .steps) term
 
 -- The loop, which began with the state s₀ and the records rs₀, is at s and rs.
 pub record Going (types : Table) (fuel : ℕ) (rs₀ rs : List Record) (s₀ s : State) : Type 0 where
-  pub running : s .status ≡ 0
-  pub each : (first : Term) → Runs types rs₀ s₀ first → StandsAt types fuel first rs s
+  pub going : s .stopped ≡ false
+  pub each : (first : Term) → HoldsTerm types rs₀ s₀ first → StandsAt types fuel first rs s
 
 pub going-starts : (types : Table) (fuel : ℕ) (rs : List Record) (s : State) → CanRun types rs s → Going types fuel rs rs s s
 going-starts types fuel rs s h = record {
-  running = h .running;
-  each = λ first k. record { term = first; runs = k; stands = rw (h .none) (run-starts types fuel first) };
+  going = h .going;
+  each = λ first k. record { term = first; holds = k; stands = rw (h .none) (run-starts types fuel first) };
 }
 
 module _ (types : Table) (fuel : ℕ) (rs₀ rs : List Record) (s₀ s : State) (h : CanRun types rs₀ s₀) (g : Going types fuel rs₀ rs s₀ s) where
-  pub going-spent : fuel ≤ s .steps → RunsOut types fuel rs₀ rs s₀ s
-  going-spent l = record {
-    does = λ first k.
-        let a = g .each first k in
-        record { last = a .term; runs = a .runs; stop = subst (Stop types fuel first (s .steps) (a .term)) (sym (g .running)) (by-fuel (a .stands) l) };
-  }
+  pub going-seeks : HasTerm rs s
+  going-seeks = let a = g .each (h .term) (h .holds) in record { types = types; term = a .term; holds = a .holds }
 
-  module _ (l : s .steps < fuel) where
-    pub going-steps : fuel < 2 ^ 32 → CanStep types rs s
-    going-steps b = let a = g .each (h .term) (h .runs) in record { term = a .term; runs = a .runs; running = g .running; counts = omega arith }
+  -- After the search.
+  module _ (rs₁ : List Record) (q : State) (f : SeeksTerm rs rs₁ s q) where
+    -- The term is at its redex, or a value.
+    at-redex : (first : Term) (k : HoldsTerm types rs₀ s₀ first) → Runs types rs₁ q (g .each first k .term)
+    at-redex first k = let a = g .each first k in f .does types (a .term) (a .holds)
 
-    module _ (rs′ : List Record) (r : State) (d : Stepped types rs rs′ s r) where
-      pub going-on : r .status ≡ 0 → Going types fuel rs₀ rs′ s₀ r
-      going-on z = record {
-        running = z;
-        each = λ first k. let a = g .each first k in step first a (subst (After types rs rs′ s r (a .term)) z (d .does (a .term) (a .runs)));
+    stands : (first : Term) (k : HoldsTerm types rs₀ s₀ first) → Running types fuel first (q .steps) (g .each first k .term)
+    stands first k = rw (f .steps) (g .each first k .stands)
+
+    kept : q .stopped ≡ false
+    kept = f .stopped ∙ g .going
+
+    module _ (b : Bool) (v : TellsValue q b) where
+      valued-at : (first : Term) (k : HoldsTerm types rs₀ s₀ first) → value (g .each first k .term) ≡ b
+      valued-at first k = sym (v .is types rs₁ (g .each first k .term) (at-redex first k))
+
+      pub going-value : b ≡ true → RunsOut types fuel rs₀ rs₁ s₀ q
+      going-value y = record {
+        does = λ first k. record {
+          last = g .each first k .term;
+          runs = at-redex first k;
+          stop = subst (Stop types fuel first (q .steps) (g .each first k .term)) (sym kept) (by-value (stands first k) (valued-at first k ∙ y));
+        };
       }
-        where
-          step : (first : Term) (a : StandsAt types fuel first rs s) → After types rs rs′ s r (a .term) 0 → StandsAt types fuel first rs′ r
-          step first a (running u b c m) = record {
-            term = u;
-            runs = runs-on types (h .unlike) rs rs′ s r (a .term) u (a .runs) b m .0;
-            stands = rw (m .steps) (goes-on types fuel first (s .steps) (a .term) (a .stands) (b .event) u l (is-false (value (a .term)) (T-not (value (a .term)) (b .no-value))) (b .is-next) c);
-          }
 
-      pub going-less : r .status ≡ 0 → fuel - r .steps < fuel - s .steps
-      going-less z = let a = g .each (h .term) (h .runs) in go (subst (After types rs rs′ s r (a .term)) z (d .does (a .term) (a .runs)))
-        where
-          go : {t : Term} → After types rs rs′ s r t 0 → fuel - r .steps < fuel - s .steps
-          go (running u b c m) = omega (arith, m .steps)
+      pub going-spent : fuel ≤ q .steps → RunsOut types fuel rs₀ rs₁ s₀ q
+      going-spent l = record {
+        does = λ first k. record {
+          last = g .each first k .term;
+          runs = at-redex first k;
+          stop = subst (Stop types fuel first (q .steps) (g .each first k .term)) (sym kept) (by-fuel (stands first k) l);
+        };
+      }
 
-      pub going-stops : (r .status ≡ 0 → ⊥) → RunsOut types fuel rs₀ rs′ s₀ r
-      going-stops n = record { does = λ first k. let a = g .each first k in stop first a (r .status) refl (d .does (a .term) (a .runs)) }
-        where
-          stop : (first : Term) (a : StandsAt types fuel first rs s) (status : ℕ) → r .status ≡ status → After types rs rs′ s r (a .term) status → Stopped types fuel first rs′ r
-          stop first a _ e (running u b c m) = absurd (n e)
-          stop first a _ e (value-found v m) = record {
-            last = a .term;
-            runs = record { holds = m .holds; typed = a .runs .typed };
-            stop = subst (Stop types fuel first (r .steps) (a .term)) (sym e) (by-value (rw (m .steps) (ends-value types fuel first (s .steps) (a .term) (a .stands) (is-true (value (a .term)) v))));
-          }
-          stop first a _ e (too-large u b c m) = record {
-            last = a .term;
-            runs = record { holds = m .holds; typed = a .runs .typed };
-            stop = subst (Stop types fuel first (r .steps) (a .term)) (sym e)
-                (by-room (rw (m .steps) (ends-full types fuel first (s .steps) (a .term) (a .stands) (b .event) u l (is-false (value (a .term)) (T-not (value (a .term)) (b .no-value))) (b .is-next) c)));
-          }
+      module _ (y : b ≡ false) (l : q .steps < fuel) where
+        pub going-steps : fuel < 2 ^ 32 → CanStep types rs₁ q
+        going-steps m = record {
+          term = g .each (h .term) (h .holds) .term;
+          runs = at-redex (h .term) (h .holds);
+          no-value = valued-at (h .term) (h .holds) ∙ y;
+          unlike = h .unlike;
+          going = kept;
+          counts = omega arith;
+        }
 
-pub ruleset looping = (going-starts, going-spent, going-steps, going-on, going-less, going-stops)
+        module _ (rs₂ : List Record) (r : State) (d : Stepped types rs₁ rs₂ q r) where
+          after : (first : Term) (k : HoldsTerm types rs₀ s₀ first) → After types rs₂ q r (g .each first k .term) (r .stopped)
+          after first k = d .does (g .each first k .term) (at-redex first k)
 
--- The ending, by the status.
-module _ (rs : List Record) (s : State) where
-  pub concludes-value : s .status ≡ 1 → Concludes rs s 1
-  concludes-value z = record { does = λ types fuel first h. go types fuel first h (subst (Stop types fuel first (s .steps) (h .last)) z (h .stop)) }
+          pub going-on : r .stopped ≡ false → Going types fuel rs₀ rs₂ s₀ r
+          going-on z = record { going = z; each = λ first k. step first k (subst (After types rs₂ q r (g .each first k .term)) z (after first k)) }
+            where
+              step : (first : Term) (k : HoldsTerm types rs₀ s₀ first) → After types rs₂ q r (g .each first k .term) false → StandsAt types fuel first rs₂ r
+              step first k (running u c m w e) = record {
+                term = u;
+                holds = w;
+                stands = rw e (goes-on types fuel first (q .steps) (g .each first k .term) (stands first k) (c .event) u l (c .no-value) (c .is-next) m);
+              }
+
+          pub going-less : r .stopped ≡ false → fuel - r .steps < fuel - s .steps
+          going-less z = go (subst (After types rs₂ q r (g .each (h .term) (h .holds) .term)) z (after (h .term) (h .holds)))
+            where
+              go : {t : Term} → After types rs₂ q r t false → fuel - r .steps < fuel - s .steps
+              go (running u c m w e) = omega (arith, e, f .steps)
+
+          pub going-stops : r .stopped ≡ true → RunsOut types fuel rs₀ rs₂ s₀ r
+          going-stops z = record { does = λ first k. stop first k (subst (After types rs₂ q r (g .each first k .term)) z (after first k)) }
+            where
+              stop : (first : Term) (k : HoldsTerm types rs₀ s₀ first) → After types rs₂ q r (g .each first k .term) true → Stopped types fuel first rs₂ r
+              stop first k (too-large u c m w e) = record {
+                last = g .each first k .term;
+                runs = w;
+                stop = subst (Stop types fuel first (r .steps) (g .each first k .term)) (sym z)
+                    (by-room (c .no-value) (rw e (ends-full types fuel first (q .steps) (g .each first k .term) (stands first k) (c .event) u l (c .no-value) (c .is-next) m)));
+              }
+
+pub ruleset looping = (going-starts, going-seeks, going-value, going-spent, going-steps, going-on, going-less, going-stops)
+
+-- The ending, by whether the last term is a value and whether a step was not made.
+module _ (s : State) (b : Bool) (v : TellsValue s b) where
+  pub concludes-value : b ≡ true → Concludes s 1
+  concludes-value y = record { does = λ types fuel first rs h. go types fuel first rs h (sym (v .is types rs (h .last) (h .runs)) ∙ y) (h .stop) }
     where
-      go : (types : Table) (fuel : ℕ) (first : Term) (h : Stopped types fuel first rs s) → Stop types fuel first (s .steps) (h .last) 1 → Concluded types fuel first rs s 1
-      go types fuel first h (by-value o) = record { last = h .last; runs = h .runs; ending = valued; number = refl; outcome = o }
+      go : (types : Table) (fuel : ℕ) (first : Term) (rs : List Record) (h : Stopped types fuel first rs s) → value (h .last) ≡ true → {e : Bool} → Stop types fuel first (s .steps) (h .last) e
+          → Concluded types fuel first rs s 1
+      go types fuel first rs h w (by-fuel k l) =
+          record { last = h .last; runs = h .runs; ending = valued; number = refl; outcome = ends-value types fuel first (s .steps) (h .last) k w }
+      go types fuel first rs h w (by-value k _) =
+          record { last = h .last; runs = h .runs; ending = valued; number = refl; outcome = ends-value types fuel first (s .steps) (h .last) k w }
+      go types fuel first rs h w (by-room n o) = absurd (subst T (sym w ∙ n) tt)
 
-  pub concludes-full : s .status ≡ 2 → Concludes rs s 3
-  concludes-full z = record { does = λ types fuel first h. go types fuel first h (subst (Stop types fuel first (s .steps) (h .last)) z (h .stop)) }
-    where
-      go : (types : Table) (fuel : ℕ) (first : Term) (h : Stopped types fuel first rs s) → Stop types fuel first (s .steps) (h .last) 2 → Concluded types fuel first rs s 3
-      go types fuel first h (by-room o) = record { last = h .last; runs = h .runs; ending = full; number = refl; outcome = o }
+  module _ (y : b ≡ false) where
+    no-value : (types : Table) (fuel : ℕ) (first : Term) (rs : List Record) (h : Stopped types fuel first rs s) → value (h .last) ≡ false
+    no-value types fuel first rs h = sym (v .is types rs (h .last) (h .runs)) ∙ y
 
-  -- Where the fuel is spent: "ending value if the term is a value; else spent".
-  module _ (n1 : s .status ≡ 1 → ⊥) (n2 : s .status ≡ 2 → ⊥) (b : Bool) (v : TellsValue rs s b) where
-    pub concludes-last-value : b ≡ true → Concludes rs s 1
-    concludes-last-value e = record { does = λ types fuel first h. go types fuel first h (s .status) refl (h .stop) }
+    pub concludes-full : s .stopped ≡ true → Concludes s 3
+    concludes-full z = record { does = λ types fuel first rs h. go types fuel first rs h (subst (Stop types fuel first (s .steps) (h .last)) z (h .stop)) }
       where
-        go : (types : Table) (fuel : ℕ) (first : Term) (h : Stopped types fuel first rs s) (status : ℕ) → s .status ≡ status → Stop types fuel first (s .steps) (h .last) status → Concluded types fuel first rs s 1
-        go types fuel first h _ z (by-value o) = absurd (n1 z)
-        go types fuel first h _ z (by-room o) = absurd (n2 z)
-        go types fuel first h _ z (by-fuel k l) =
-            record { last = h .last; runs = h .runs; ending = valued; number = refl; outcome = ends-value types fuel first (s .steps) (h .last) k (sym (v .is types (h .last) (h .runs)) ∙ e) }
+        go : (types : Table) (fuel : ℕ) (first : Term) (rs : List Record) (h : Stopped types fuel first rs s) → Stop types fuel first (s .steps) (h .last) true → Concluded types fuel first rs s 3
+        go types fuel first rs h (by-room _ o) = record { last = h .last; runs = h .runs; ending = full; number = refl; outcome = o }
 
-    pub concludes-spent : b ≡ false → Concludes rs s 2
-    concludes-spent e = record { does = λ types fuel first h. go types fuel first h (s .status) refl (h .stop) }
+    pub concludes-spent : s .stopped ≡ false → Concludes s 2
+    concludes-spent z = record { does = λ types fuel first rs h. go types fuel first rs h (subst (Stop types fuel first (s .steps) (h .last)) z (h .stop)) }
       where
-        go : (types : Table) (fuel : ℕ) (first : Term) (h : Stopped types fuel first rs s) (status : ℕ) → s .status ≡ status → Stop types fuel first (s .steps) (h .last) status → Concluded types fuel first rs s 2
-        go types fuel first h _ z (by-value o) = absurd (n1 z)
-        go types fuel first h _ z (by-room o) = absurd (n2 z)
-        go types fuel first h _ z (by-fuel k l) =
-            record { last = h .last; runs = h .runs; ending = spent; number = refl; outcome = ends-spent types fuel first (s .steps) (h .last) k l (sym (v .is types (h .last) (h .runs)) ∙ e) }
+        go : (types : Table) (fuel : ℕ) (first : Term) (rs : List Record) (h : Stopped types fuel first rs s) → Stop types fuel first (s .steps) (h .last) false → Concluded types fuel first rs s 2
+        go types fuel first rs h (by-value _ w) = absurd (subst T (sym w ∙ no-value types fuel first rs h) tt)
+        go types fuel first rs h (by-fuel k l) =
+            record { last = h .last; runs = h .runs; ending = spent; number = refl; outcome = ends-spent types fuel first (s .steps) (h .last) k l (no-value types fuel first rs h) }
 
-pub ruleset concluding = (concludes-value, concludes-full, concludes-last-value, concludes-spent)
+pub ruleset concluding = (concludes-value, concludes-full, concludes-spent)

@@ -12,7 +12,7 @@ use Rattle.engine.specs.Answers.{runMeant, Passing}
 pub record CanAccept (program out work : List ℕ) : Type 0 where
   pub passing : Passing program
   pub room : outputNeeded ≤ length out
-  pub halves : length work ≡ workNeeded
+  pub long : length work ≡ workNeeded
 
 pub record Accepted (program : List ℕ) (fuel : ℕ) (out out′ : List ℕ) (r : RunAnswer) : Type 0 where
   pub answer : runMeant r ≡ accepted (tableOf program) (programCourse program fuel)

@@ -5,7 +5,6 @@ ghost use Rattle.rules.specs.Format.{recordsOf};
 ghost use Rattle.rules.specs.Check.{typeNo, checkAnswer};
 ghost use Rattle.rules.specs.Run.{refused};
 ghost use Rattle.records.specs.View.{entriesIn, recordsIn};
-ghost use Rattle.steps.specs.Stepping.{HoldsTyped};
 ghost use Rattle.engine.specs.Answers.{checkMeant, runMeant, Passing, Ran};
 ghost use Rattle.engine.specs.Looping.{CanRun, RunsOut, Concludes};
 ghost use Rattle.engine.specs.Accepting.{CanAccept, Accepted};
@@ -100,26 +99,29 @@ fn run_steps(start: State, table: &[u8], fuel: u32, work: &mut [u8]) -> State
     ensures { λ r. ⌜ RunsOut (entriesIn (now (table .entry))) fuel (recordsIn (now (work .entry))) (recordsIn (now (work .exit))) start r ⌝ }
 {
     let mut s = start;
-    while s.steps < fuel {
+    loop {
+        s = s.seek(work);
+        if s.is_value() {
+            return s;
+        }
+        if fuel <= s.steps {
+            return s;
+        }
         s = s.step(table, work);
-        if s.status != 0 {
+        if s.stopped {
             return s;
         }
     }
-    s
 }
 
-// The number of the ending of a run that has stopped.
-fn ending_of(s: State, work: &[u8]) -> u32
-    requires { ⌜ HoldsTyped (recordsIn (now work)) s ⌝ }
-    ensures { λ r. ⌜ Concludes (recordsIn (now (work .entry))) s r ⌝ }
+// The number of the ending of a run that has stopped: "ending value if the term is a value; else spent if n is the fuel; else full".
+fn ending_of(s: State) -> u32
+    ensures { λ r. ⌜ Concludes s r ⌝ }
 {
-    let status = s.status;
-    match status {
-        1 => 1,
-        2 => 3,
-        _ => { if s.is_value(work) { 1 } else { 2 } }
+    if s.is_value() {
+        return 1;
     }
+    if s.stopped { 3 } else { 2 }
 }
 
 // The run of a program that is passed.
@@ -133,7 +135,7 @@ fn accepted(program: &[u8], fuel: u32, output: &mut [u8], work: &mut [u8]) -> Ru
     let end = 4 + 6 * (types as usize);
     let start = State::start(&program[end..], count, work);
     let last = run_steps(start, &program[4..end], fuel, work);
-    let ending = ending_of(last, work);
+    let ending = ending_of(last);
     let written = last.write_out(&program[4..end], types, work, output);
     RunAnswer {
         number: 0,

@@ -98,7 +98,7 @@ module _ (down up : ℕ) where
 pub bound-raised : (n d : ℕ) (t : Term) → d < freeBound t → freeBound (changed (raising n) d t) ≡ freeBound t + n
 bound-raised n d t l = let (p, q) = bound-shifted 0 n d t (none-removed d t) l in ap freeBound (raising-shifts n d t) ∙ (omega arith)
 
-raised-most : (n d : ℕ) (t : Term) → freeBound (changed (raising n) d t) ≤ freeBound t + n
+pub raised-most : (n d : ℕ) (t : Term) → freeBound (changed (raising n) d t) ≤ freeBound t + n
 raised-most n d t = elim (decLt d (freeBound t)) [
   | yes l ↦ omega (arith, bound-raised n d t l)
   | no l ↦ rw (changed-low (raising n) (raising-low n) d t (omega arith)) (omega arith)

@@ -1,4 +1,4 @@
-// The tables of the kinds, by the kind's number: code asks these. The type rules (`judging`) and the step rules (`planning`), which are each kind's
+// The tables of the kinds, by the kind's number: code asks these. The type rules (`judging`) and the step rules (`contraction`), which are each kind's
 // own, are matched by that number where they stand. A number that no kind has is answered as kind 1, as `kindOf` says.
 mod bounds; // how many types and records a program may have
 mod conditions; // the tests of conditions
@@ -96,6 +96,19 @@ pub fn stepping_at_zero(kind: u16) -> u16
     match kind {
         4 => 2,
         5..=7 | 9..=14 => 1,
+        _ => 0,
+    }
+}
+
+// How many of its children it steps at level 1.
+pub fn stepping_at_one(kind: u16) -> u16
+    ensures { λ r. ⌜ r ≡ stepping 1 (kindOf kind) ⌝ }
+{
+    match kind {
+        4 => 2,
+        3 => 1,
+        5 => 1,
+        8 => 1,
         _ => 0,
     }
 }

@@ -1,16 +1,11 @@
--- The laws of making a contractum, then those of the state and its step.
-pub mod LowParts
-pub mod RaisedZero
-pub mod ArgumentSizes
-pub mod MakingArea
-pub mod MakingForms
-pub mod MadeSizes
-pub mod MadeCopies
-pub mod Kept
-pub mod Copies
-pub mod Starting
-pub mod NextTerms
-pub mod Stepping
+-- The laws of the step.
+pub mod Searching
+pub mod SearchLoop
+pub mod Reducible
 pub mod Values
-pub mod Running
+pub mod TermSearch
+pub mod Starting
+pub mod Planning
 pub mod Output
+pub mod Contracting
+pub mod Stepping

@@ -1,8 +1,6 @@
 -- What the contracts of the step cite.
-pub mod Making
-pub mod MakingParts
-pub mod Halves
-pub mod Starting
-pub mod Copies
+pub mod Seeking
 pub mod Stepping
+pub mod Contracting
+pub mod Starting
 pub mod Output

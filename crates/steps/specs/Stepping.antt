@@ -1,83 +1,67 @@
 -- One step of a run: what it asks of a state, and the state after it.
-use Prim.Native.Nat.{ℕ, _+_, _*_, _-_, _^_, _≤_, _<_}
-use mathlib.Core.List.{List, []}
-use mathlib.Core.Bool.{Bool, not}
+use Prim.Native.Nat.{_+_, _^_, _≤_, _<_}
+use mathlib.Core.List.{List}
+use mathlib.Core.Bool.{Bool, true, false}
 use mathlib.Core.Option.{some}
 use mathlib.Core.Path.{_≡_}
-use lib.Dec.{T}
 use Rattle.rules.specs.Terms.{Term, size}
-use Rattle.rules.specs.Types.{Table}
-use Rattle.rules.specs.Typing.{Typed}
+use Rattle.rules.specs.Types.{Table, NoTwins}
 use Rattle.rules.specs.Values.{value}
 use Rattle.rules.specs.Steps.{Event}
 use Rattle.rules.specs.Next.{next}
 use Rattle.rules.specs.Format.{Record, mostRecords}
-use Rattle.finding.specs.declared.Found.the-variants.{Redex}
-use Rattle.finding.specs.Finding.{find}
+use Rattle.zipper.specs.Ascending.{Sought, Turned}
 use Rattle.steps.specs.declared.state.State.{State}
-use Rattle.steps.specs.Halves.{HoldsTerm}
 
--- The state holds t, which keeps the rules of its table.
+-- The state holds t, which keeps the rules of its table: at a focus that is to be searched, or where the search is over.
+pub record HoldsTerm (types : Table) (rs : List Record) (s : State) (t : Term) : Type 0 where
+  pub turned : Turned types rs 0 t (s .turn)
+
+-- The search is over: the state is at a value, or at the record that is rewritten next.
 pub record Runs (types : Table) (rs : List Record) (s : State) (t : Term) : Type 0 where
-  pub holds : HoldsTerm rs s t
-  pub typed : Typed types [] 0 t
+  pub found : Sought types rs t (s .turn)
 
--- Some term is held so.
-pub record HoldsTyped (rs : List Record) (s : State) : Type 0 where
+-- Some term is held, and so.
+pub record HasTerm (rs : List Record) (s : State) : Type 0 where
+  pub types : Table
+  pub term : Term
+  pub holds : HoldsTerm types rs s term
+
+pub record HasRun (rs : List Record) (s : State) : Type 0 where
   pub types : Table
   pub term : Term
   pub runs : Runs types rs s term
 
--- r is whether the term is a value.
-pub record TellsValue (rs : List Record) (s : State) (r : Bool) : Type 0 where
-  pub is : (types : Table) (t : Term) → Runs types rs s t → r ≡ value t
+-- The same term, after the search.
+pub record SeeksTerm (rs rs′ : List Record) (s r : State) : Type 0 where
+  pub does : (types : Table) (t : Term) → HoldsTerm types rs s t → Runs types rs′ r t
+  pub steps : r .steps ≡ s .steps
+  pub stopped : r .stopped ≡ s .stopped
 
--- It is running, and one step more can be counted.
+-- r is whether the term is a value.
+pub record TellsValue (s : State) (r : Bool) : Type 0 where
+  pub is : (types : Table) (rs : List Record) (t : Term) → Runs types rs s t → r ≡ value t
+
+-- The state is at the redex of a term of a table without like entries, and one step more can be counted.
 pub record CanStep (types : Table) (rs : List Record) (s : State) : Type 0 where
   pub term : Term
   pub runs : Runs types rs s term
-  pub running : s .status ≡ 0
+  pub no-value : value term ≡ false
+  pub unlike : NoTwins types
+  pub going : s .stopped ≡ false
   pub counts : s .steps + 1 < 2 ^ 32
-
--- No step is made: r holds t where s did, and the records are the same.
-pub record Stays (rs rs′ : List Record) (s r : State) (t : Term) : Type 0 where
-  pub same : rs′ ≡ rs
-  pub holds : HoldsTerm rs′ r t
-  pub half : r .half ≡ s .half
-  pub steps : r .steps ≡ s .steps
-
--- A step is made: r holds u in the other half, and counts one step more.
-pub record Advances (rs′ : List Record) (s r : State) (u : Term) : Type 0 where
-  pub holds : HoldsTerm rs′ r u
-  pub half : r .half ≡ 1 - s .half
-  pub steps : r .steps ≡ s .steps + 1
 
 -- t is no value, and its next term is u; the event of the step.
 pub record Becomes (types : Table) (t u : Term) : Type 0 where
-  pub no-value : T (not (value t))
+  pub no-value : value t ≡ false
   pub event : Event
   pub is-next : next types 0 t ≡ some (record { event = event; term = u })
 
--- After a step from t, by the status: 0, the next term has room, and the step is made; 1, "the term is a value"; 2, "the next term has more
--- than 2,048 records".
-pub data After (types : Table) (rs rs′ : List Record) (s r : State) (t : Term) : ℕ → Type 0 where
-  running : (u : Term) → Becomes types t u → size u ≤ mostRecords → Advances rs′ s r u → After types rs rs′ s r t 0
-  value-found : T (value t) → Stays rs rs′ s r t → After types rs rs′ s r t 1
-  too-large : (u : Term) → Becomes types t u → mostRecords < size u → Stays rs rs′ s r t → After types rs rs′ s r t 2
+-- After a step from t, by whether the run is stopped: the next term has room, and the step is made; or "the next term has more than 2,048 records", and
+-- no step is made.
+pub data After (types : Table) (rs′ : List Record) (s r : State) (t : Term) : Bool → Type 0 where
+  running : (u : Term) → Becomes types t u → size u ≤ mostRecords → HoldsTerm types rs′ r u → r .steps ≡ s .steps + 1 → After types rs′ s r t false
+  too-large : (u : Term) → Becomes types t u → mostRecords < size u → Runs types rs′ r t → r .steps ≡ s .steps → After types rs′ s r t true
 
 pub record Stepped (types : Table) (rs rs′ : List Record) (s r : State) : Type 0 where
-  pub does : (t : Term) → Runs types rs s t → After types rs rs′ s r t (r .status)
-
--- The same, where the step is made at p.
-pub record RunsAt (types : Table) (rs : List Record) (s : State) (p : ℕ) (t : Term) : Type 0 where
-  pub runs : Runs types rs s t
-  pub found : find 0 t (mostRecords * s .half) ≡ Redex p
-
-pub record CanStepAt (types : Table) (rs : List Record) (s : State) (p : ℕ) : Type 0 where
-  pub term : Term
-  pub runs : RunsAt types rs s p term
-  pub running : s .status ≡ 0
-  pub counts : s .steps + 1 < 2 ^ 32
-
-pub record SteppedAt (types : Table) (rs rs′ : List Record) (s r : State) (p : ℕ) : Type 0 where
-  pub does : (t : Term) → RunsAt types rs s p t → After types rs rs′ s r t (r .status)
+  pub does : (t : Term) → Runs types rs s t → After types rs′ s r t (r .stopped)

@@ -1,5 +1,5 @@
 // A run's state, and the step that it makes.
-mod making; // what a planned rewriting makes: whether it has room, and writing it
+mod seeking; // from a term with its focus to the record that is rewritten next
 mod state; // the state and its step
 
 pub use state::State;

@@ -1,122 +1,167 @@
-// A run's state by value, and its step. The term lies in one half of the work buffer, 2 x 2,048 slots; a step writes the next term to the
-// other half, so that nothing has to be undone where there is no room for it.
-use crate::making::made_fits;
-use crate::making::write_made;
-use finding::Found;
-use planning::Plan;
-ghost use mathlib.Core.Path.{_≡_};
-ghost use Prim.Native.Nat.{_*_, _≤_};
-ghost use Rattle.rules.specs.Format.{mostRecords};
+// A run's state by value, and its step.
+use crate::seeking::seek_from;
+use contraction::Plan;
+use zipper::Ahead;
+use zipper::Focus;
+use zipper::Turn;
 ghost use Rattle.records.specs.View.{entriesIn, recordsIn};
+ghost use Rattle.steps.specs.Stepping.{HasTerm, SeeksTerm, HasRun, TellsValue, CanStep, Stepped};
+ghost use Rattle.steps.specs.Contracting.{Aims, CanProceed, Proceeds};
 ghost use Rattle.steps.specs.Starting.{CanStart, Starts};
-ghost use Rattle.steps.specs.Copies.{CanRewrite, Rewrites};
-ghost use Rattle.steps.specs.Stepping.{HoldsTyped, TellsValue, CanStep, Stepped, CanStepAt, SteppedAt};
-ghost use Rattle.steps.specs.Output.{CanWriteOut, WritesOut};
+ghost use Rattle.steps.specs.Output.{Settles, CanWriteOut, WritesOut};
 
 // How many records a term may have.
 const MOST: usize = rules::MOST_RECORDS as usize;
 
-// The term is in half 0 or half 1 of the work buffer and has `size` records; `steps` are made.
-// Status 0: it is running. 1: the term is a value. 2: the next term has more than 2,048 records.
+// How many slots of the work buffer hold the term around its focus.
+const SLOTS: usize = 4096;
+
+// Where a run stands: at a focus that is to be searched, at a value, or at the record that is rewritten next. `steps` are made. It is stopped where the
+// next term has more than 2,048 records.
 pub struct State {
-    pub half: u16,
-    pub size: u16,
+    pub turn: Turn,
+    pub stopped: bool,
     pub steps: u32,
-    pub status: u16,
 }
 
-// The first slot of a half.
-fn first_slot(half: u16) -> usize
-    requires { ⌜ half ≤ 1 ⌝ }
-    ensures { λ r. ⌜ r ≡ mostRecords * half ⌝ }
-{
-    MOST * (half as usize)
-}
-
-// Writes what the plan of the record at `p` makes of the term of `size` records at `base` to `dst`: the records before the rewritten tree,
-// those that are made, and the records after it. Returns the place after all.
-fn rewrite(work: &mut [u8], base: usize, size: usize, p: usize, plan: Plan, dst: usize) -> usize
-    requires { ⌜ CanRewrite (recordsIn (now work)) base size p plan dst ⌝ }
-    ensures { λ r. ⌜ Rewrites (recordsIn (now (work .entry))) (recordsIn (now (work .exit))) base size p plan dst r ⌝ }
-{
-    let before = p - base;
-    let end = plan.end;
-    terms::copy_flat(work, base, dst, before);
-    let at = write_made(work, p, plan, dst + before);
-    let after = base + size - end;
-    terms::copy_flat(work, end, at, after);
-    at + after
+// What becomes of the focus: what is planned, the first slot that is free for it, and the hole that it fills.
+struct Aim {
+    plan: Plan,
+    free: usize,
+    hole: Ahead,
 }
 
 impl State {
-    // The state before the first step: the tree of the root of `count` records, written to half 0.
+    // The state before the first step: the tree of the root of `count` records, in the last slots.
     pub fn start(records: &[u8], count: u16, work: &mut [u8]) -> State
         requires { ⌜ CanStart (recordsIn (now records)) count (recordsIn (now work)) ⌝ }
         ensures { λ r. ⌜ Starts (recordsIn (now (records .entry))) (recordsIn (now (work .exit))) r ⌝ }
     {
-        terms::load(records, 1, count, work, 0);
+        let r = SLOTS - (count as usize);
+        terms::load(records, 1, count, work, r);
+        let first = Ahead {
+            l: 0,
+            r,
+            top: 0,
+            level: 0,
+        };
         State {
-            half: 0,
-            size: count,
+            turn: Turn::Next(first),
+            stopped: false,
             steps: 0,
-            status: 0,
         }
     }
 
-    // The step that the record at `p` makes, where there is room for the next term.
-    fn step_at(mut self, table: &[u8], work: &mut [u8], p: usize) -> State
-        requires { ⌜ CanStepAt (entriesIn (now table)) (recordsIn (now work)) self p ⌝ }
-        ensures { λ r. ⌜ SteppedAt (entriesIn (now (table .entry))) (recordsIn (now (work .entry))) (recordsIn (now (work .exit))) self r p ⌝ }
+    // The same term at its redex, or at the value that it is.
+    pub fn seek(self, work: &mut [u8]) -> State
+        requires { ⌜ HasTerm (recordsIn (now work)) self ⌝ }
+        ensures { λ r. ⌜ SeeksTerm (recordsIn (now (work .entry))) (recordsIn (now (work .exit))) self r ⌝ }
     {
-        let size = self.size as usize;
-        let plan = planning::plan_at(table, work, p);
-        let kept = size - (plan.end - p);
-        if !made_fits(work, p, plan, MOST - kept) {
-            self.status = 2;
+        let turn = self.turn;
+        match turn {
+            Turn::Next(a) => State {
+                turn: seek_from(work, a),
+                stopped: self.stopped,
+                steps: self.steps,
+            },
+            Turn::Value(_) => self,
+            Turn::Redex(_, _) => self,
+            Turn::Match(_) => self,
+        }
+    }
+
+    // What becomes of the focus. What isn't rewritten stays as it is.
+    fn aim(self, table: &[u8], work: &[u8]) -> Aim
+        requires { ⌜ CanStep (entriesIn (now table)) (recordsIn (now work)) self ⌝ }
+        ensures { λ r. ⌜ Aims (entriesIn (now (table .entry))) (recordsIn (now (work .entry))) self r ⌝ }
+    {
+        let turn = self.turn;
+        match turn {
+            Turn::Redex(z, level) => Aim {
+                plan: contraction::plan_whole(work, z.s),
+                free: z.l,
+                hole: zipper::hole_of(z, level),
+            },
+            Turn::Match(z) => Aim {
+                plan: contraction::plan_match(table, work, z.top, z.r),
+                free: z.l,
+                hole: zipper::dropped(work, z),
+            },
+            Turn::Value(z) => Aim {
+                plan: Plan::Tree(z.s, 0),
+                free: z.l,
+                hole: zipper::hole_of(z, 0),
+            },
+            Turn::Next(a) => Aim {
+                plan: Plan::Tree(a.r, 0),
+                free: a.l,
+                hole: a,
+            },
+        }
+    }
+
+    // Puts what the plan makes into the hole, where there is room for the next term. The slots from `free` to the right side are free.
+    fn proceed(mut self, work: &mut [u8], plan: Plan, free: usize, hole: Ahead) -> State
+        requires { ⌜ CanProceed (recordsIn (now work)) self plan free hole ⌝ }
+        ensures { λ r. ⌜ Proceeds (recordsIn (now (work .entry))) (recordsIn (now (work .exit))) self plan free hole r ⌝ }
+    {
+        if !contraction::fits(work, plan, hole.r - hole.l - MOST) {
+            self.stopped = true;
             return self;
         }
-        let base = first_slot(self.half);
-        let other = 1 - self.half;
-        let start = first_slot(other);
-        let end = rewrite(work, base, size, p, plan, start);
-        self.half = other;
-        self.size = (end - start) as u16;
-        self.steps += 1;
-        self
+        let made = contraction::make(work, plan, free);
+        let next = zipper::put_ahead(work, hole, made.at, made.size);
+        State {
+            turn: Turn::Next(next),
+            stopped: self.stopped,
+            steps: self.steps + 1,
+        }
     }
 
-    // One step: the next term, where the term isn't a value and there is room for the next one.
+    // One step of a term that isn't a value: the next term, where there is room for it.
     pub fn step(mut self, table: &[u8], work: &mut [u8]) -> State
         requires { ⌜ CanStep (entriesIn (now table)) (recordsIn (now work)) self ⌝ }
         ensures { λ r. ⌜ Stepped (entriesIn (now (table .entry))) (recordsIn (now (work .entry))) (recordsIn (now (work .exit))) self r ⌝ }
     {
-        let found = finding::find0(work, first_slot(self.half));
-        match found {
-            Found::Redex(p) => self.step_at(table, work, p),
-            Found::Done(_) => {
-                self.status = 1;
-                self
-            }
-        }
+        let aim = self.aim(table, work);
+        let plan = aim.plan;
+        self.proceed(work, plan, aim.free, aim.hole)
     }
 
     // Whether the term is a value.
-    pub fn is_value(self, work: &[u8]) -> bool
-        requires { ⌜ HoldsTyped (recordsIn (now work)) self ⌝ }
-        ensures { λ r. ⌜ TellsValue (recordsIn (now (work .entry))) self r ⌝ }
+    pub fn is_value(self) -> bool
+        ensures { λ r. ⌜ TellsValue self r ⌝ }
     {
-        let found = finding::find0(work, first_slot(self.half));
-        match found {
-            Found::Redex(_) => false,
-            Found::Done(_) => true,
+        let turn = self.turn;
+        match turn {
+            Turn::Value(_) => true,
+            Turn::Next(_) => false,
+            Turn::Redex(_, _) => false,
+            Turn::Match(_) => false,
         }
     }
 
-    // Writes the table of `types` entries and the term as a program, and tells its length.
-    pub fn write_out(self, table: &[u8], types: u16, work: &[u8], out: &mut [u8]) -> usize
+    // The focus, brought before the gap where it isn't.
+    fn settle(self, work: &mut [u8]) -> Focus
+        requires { ⌜ HasRun (recordsIn (now work)) self ⌝ }
+        ensures { λ r. ⌜ Settles (recordsIn (now (work .entry))) (recordsIn (now (work .exit))) self r ⌝ }
+    {
+        let turn = self.turn;
+        match turn {
+            Turn::Next(a) => zipper::bring(work, a),
+            Turn::Value(z) => z,
+            Turn::Redex(z, _) => z,
+            Turn::Match(z) => z,
+        }
+    }
+
+    // Closes every frame, writes the table of `types` entries and the term as a program, and tells its length.
+    pub fn write_out(self, table: &[u8], types: u16, work: &mut [u8], out: &mut [u8]) -> usize
         requires { ⌜ CanWriteOut (now table) types (recordsIn (now work)) self (now out) ⌝ }
         ensures { λ r. ⌜ WritesOut (now (table .entry)) types (recordsIn (now (work .entry))) self (now (out .entry)) (now (out .exit)) r ⌝ }
     {
-        writing::write_program(table, types, work, first_slot(self.half), self.size, out)
+        let z = self.settle(work);
+        let whole = zipper::close_all(work, z);
+        writing::write_program(table, types, work, 0, whole.l as u16, out)
     }
 }

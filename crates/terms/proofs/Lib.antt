@@ -1,11 +1,11 @@
 -- The laws of terms in lists of records.
-pub mod Trees
 pub mod Puts
-pub mod Pieces
-pub mod Storing
+pub mod There
 pub mod Children
-pub mod Forests
-pub mod Skipping
+pub mod Trees
+pub mod Storing
+pub mod Readings
+pub mod Joined
 pub mod Moving
 pub mod Numbered
 pub mod Chains

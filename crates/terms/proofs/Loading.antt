@@ -1,25 +1,43 @@
--- `load`: the laws of its loop, which writes the trees of a record's children, and of its calls of itself. `loading` for search.
+-- `load`: the laws of its loop, which writes the trees of a record's children, of its calls of itself, and of the root, which is marked at the
+-- end. `loading` for search.
 use Prim.Native.Nat.{ℕ, _+_, _-_, _^_, _≤_, _<_}
 use native.Mathlib.Omega.{arith}
-use mathlib.Core.Path.{_≡_, refl, sym, ap, _∙_}
+use mathlib.Core.Logic.{inl}
+use mathlib.Core.Path.{_≡_, refl, sym, ap, _∙_, subst}
 use mathlib.Core.List.{List, [], _∷_}
-use lib.ListN.{length, length-set}
+use lib.ListN.{length, getD, set, length-set}
+use lib.Seq.{getD-set-same}
 use mir.Syntax.{w64}
 use mir.Val.{Fits}
-use Rattle.rules.specs.Terms.{Term, size}
-use Rattle.rules.specs.Format.{Record, recordNo}
+use Rattle.rules.specs.Lists.{All}
+use Rattle.rules.specs.Kinds.{unary₁, ternary₃}
+use Rattle.rules.specs.Terms.{Term, leaf, unary, binary, ternary, size}
+use Rattle.rules.specs.FreeBounds.{freeBound}
+use Rattle.rules.specs.Format.{Record, noRecord, recordNo}
 use Rattle.rules.specs.Links.{nextOf, treeOf}
 use Rattle.rules.proofs.Laid.{size-some}
 use Rattle.records.specs.View.{recordsIn}
 use Rattle.records.proofs.Records.{records-length}
 use Rattle.records.specs.Places.{Within}
-use Rattle.terms.specs.Preorder.{preorder, puts, Stored}
-use Rattle.terms.specs.Loads.{unlinked, WellLinked, CanLoad, CanPutRoot, PutsRoot}
-use Rattle.terms.proofs.Trees.{length-preorder}
-use Rattle.terms.proofs.Puts.{length-puts, puts-append}
+use Rattle.terms.specs.Preorder.{head, preorder, puts, Stored}
+use Rattle.terms.specs.Children.{kids, sizes, preorders}
+use Rattle.terms.specs.Measuring.{RootedAt, HasRooted, MarksRoot}
+use Rattle.terms.specs.Loads.{WellLinked, Measurable, CanLoad, CanPutRoot, PutsRoot}
+use Rattle.terms.proofs.Puts.{length-puts, puts-append, puts-other, rewritten}
+use Rattle.terms.proofs.There.{there-put}
+use Rattle.terms.proofs.Trees.{length-preorder, length-preorders, preorder-kids}
 use Rattle.terms.proofs.Storing.{stored-end}
-use Rattle.terms.proofs.Children.{kids, sizes, preorders, kids-sizes, preorder-kids}
-use Rattle.terms.proofs.Chains.{Chain, tree-head, tree-chain}
+use Rattle.terms.proofs.Children.{kids-sizes}
+use Rattle.terms.proofs.Joined.{binds-few, first-over, second-over}
+use Rattle.terms.proofs.Chains.{Chain, tree-kind, tree-fields, tree-chain}
+
+-- The children of a tree whose measures fit have measures that fit.
+measurable-kids : (t : Term) → Measurable t → All Measurable (kids t)
+unfolding freeBound size kids
+measurable-kids (leaf k f) h = tt
+measurable-kids (unary k f t) h = (omega (arith, first-over f (unary₁ k), binds-few (unary₁ k) 0), tt)
+measurable-kids (binary k f t u) h = (omega arith, (omega arith, tt))
+measurable-kids (ternary k f t s e) h = (omega arith, (omega (arith, second-over f (ternary₃ k), binds-few (ternary₃ k) 1), (omega arith, tt)))
 
 -- Of the loop that begins at `from` of rs to write the children of record n, before the tree of `child` is written at `at` of rs′: the trees of
 -- the chain from there on are left, and once they are written all are.
@@ -29,6 +47,7 @@ pub record Loading (program : List Record) (n left : ℕ) (rs : List Record) (fr
   pub written : puts rs′ at (preorders trees) ≡ puts rs from (preorders (kids (treeOf left program n)))
   pub ends : at + sizes trees ≡ from + sizes (kids (treeOf left program n))
   pub room : from + sizes (kids (treeOf left program n)) ≤ length rs
+  pub small : All Measurable trees
   pub linked : WellLinked program
   pub enough : length program < n + left
 
@@ -53,22 +72,54 @@ module _ (program : List Record) (n left : ℕ) (rs : List Record) (dst : ℕ) (
           chain = rw (p .first) (tree-chain program left n (h .linked) load-left (h .within .some) (h .within .most));
           written = refl;
           ends = refl;
-          room = omega (arith, h .room, kids-sizes t, ap length (p .written) ∙ length-set rs dst (unlinked (recordNo program n)));
+          room = omega (arith, h .room, kids-sizes t, ap length (p .written) ∙ length-set rs dst (recordNo program n));
+          small = measurable-kids t (h .small);
           linked = h .linked;
           enough = h .enough;
         }
 
-    pub load-ends : (rs″ : List Record) (at child : ℕ) → Loading program n left rs′ (dst + 1) rs″ at child → child ≤ 0 → Stored rs rs″ dst (preorder (treeOf left program n)) at
-    unfolding Chain puts sizes preorders
-    load-ends rs″ at child l z = go (l .trees) (l .chain) (l .written) (l .ends)
-      where
-        t : Term
-        t = treeOf left program n
+    -- They are written: the root is marked.
+    module _ (rs″ : List Record) (at child : ℕ) (l : Loading program n left rs′ (dst + 1) rs″ at child) (z : child ≤ 0) where
+      abbrev t : Term
+      t = treeOf left program n
 
-        go : (ts : List Term) → Chain program (left - 1) n child ts → puts rs″ at (preorders ts) ≡ puts rs′ (dst + 1) (preorders (kids t))
-            → at + sizes ts ≡ dst + 1 + sizes (kids t) → Stored rs rs″ dst (preorder t) at
-        go [] c w q = record { records = w ∙ (rw (p .written, preorder-kids t, tree-head program left n (h .linked) load-left (h .within .some) (h .within .most))); end = omega (arith, kids-sizes t, length-preorder t) }
-        go (u ∷ ts) (c, _, _, _) w q = absurd (omega arith)
+      all-written : rs″ ≡ puts (set rs dst (recordNo program n)) (dst + 1) (preorders (kids t))
+      unfolding Chain puts preorders
+      all-written = go (l .trees) (l .chain) (l .written)
+        where
+          go : (ts : List Term) → Chain program (left - 1) n child ts → puts rs″ at (preorders ts) ≡ puts rs′ (dst + 1) (preorders (kids t))
+              → rs″ ≡ puts (set rs dst (recordNo program n)) (dst + 1) (preorders (kids t))
+          go [] c w = w ∙ ap (λ x. puts x (dst + 1) (preorders (kids t))) (p .written)
+          go (u ∷ ts) (c, _, _, _) w = absurd (omega arith)
+
+      root-there : RootedAt rs″ dst t
+      root-there =
+          let x = recordNo program n in
+          let c = length-set rs dst x in
+          let d = length-puts (set rs dst x) (dst + 1) (preorders (kids t)) in
+          let m = length-preorders (kids t) in
+          let s = kids-sizes t in
+          let e : getD rs″ dst noRecord ≡ x = ap (λ y. getD y dst noRecord) all-written ∙ puts-other (set rs dst x) (dst + 1) (preorders (kids t)) dst (inl (omega arith))
+          ∙ getD-set-same rs dst x noRecord (omega (arith, load-root .room)) in
+          record {
+            within = omega (arith, ap length all-written, load-root .room);
+            kind = ap (λ y. y .kind) e ∙ tree-kind program left n (h .linked) load-left (h .within .some) (h .within .most);
+            fields = ap (λ y. y .fields) e ∙ tree-fields program left n (h .linked) load-left (h .within .some) (h .within .most);
+            children = rw all-written (there-put (set rs dst x) (dst + 1) (preorders (kids t)) (omega (arith, h .room)));
+            few = omega (arith, h .small);
+            low = omega (arith, h .small);
+          }
+
+      pub load-marks : HasRooted rs″ dst
+      load-marks = record { tree = t; there = root-there }
+
+      pub load-ends : (rs‴ : List Record) (r′ : ℕ) → MarksRoot rs″ rs‴ dst r′ → Stored rs rs‴ dst (preorder t) r′
+      load-ends rs‴ r′ m =
+          let (w, e) = m .does t root-there in
+          record {
+            records = w ∙ ap (λ x. set x dst (head t)) all-written ∙ rewritten rs dst (recordNo program n) (head t) (preorders (kids t)) ∙ ap (puts rs dst) (sym (preorder-kids t));
+            end = omega (arith, length-preorder t);
+          }
 
 pub load-place-fits : (program : List Record) (n left : ℕ) (s : List ℕ) (dst : ℕ) → CanLoad program n left (recordsIn s) dst → length s < 2 ^ 64 → Fits w64 (dst + 1)
 load-place-fits program n left s dst h b = omega (arith, load-root program n left (recordsIn s) dst h .room, records-length s)
@@ -80,15 +131,17 @@ module _ (program : List Record) (n left : ℕ) (rs : List Record) (from : ℕ) 
 
   pub load-child : CanLoad program child (left - 1) rs′ at
   unfolding Chain sizes
-  load-child = go (l .trees) (l .chain) (l .ends)
+  load-child = go (l .trees) (l .chain) (l .ends) (l .small)
     where
-      go : (ts : List Term) → Chain program (left - 1) n child ts → at + sizes ts ≡ from + sizes (kids (treeOf left program n)) → CanLoad program child (left - 1) rs′ at
-      go [] c e = absurd (omega arith)
-      go (t ∷ ts) (a, b, q, _) e = record {
+      go : (ts : List Term) → Chain program (left - 1) n child ts → at + sizes ts ≡ from + sizes (kids (treeOf left program n)) → All Measurable ts
+          → CanLoad program child (left - 1) rs′ at
+      go [] c e m = absurd (omega arith)
+      go (t ∷ ts) (a, b, q, _) e (m, _) = record {
         linked = l .linked;
         within = record { some = z; most = b };
         enough = omega (arith, l .enough);
         room = omega (arith, l .room, ap size q, same-length);
+        small = subst Measurable q m;
       }
 
   pub load-reads : Within program child
@@ -100,12 +153,12 @@ module _ (program : List Record) (n left : ℕ) (rs : List Record) (from : ℕ) 
 
     pub load-goes-on : (next : ℕ) → next ≡ recordNo program child .next → Loading program n left rs from rs″ at′ next
     unfolding Chain sizes preorders
-    load-goes-on next e = go (l .trees) (l .chain) (l .written) (l .ends)
+    load-goes-on next e = go (l .trees) (l .chain) (l .written) (l .ends) (l .small)
       where
         go : (ts : List Term) → Chain program (left - 1) n child ts → puts rs′ at (preorders ts) ≡ puts rs from (preorders (kids (treeOf left program n)))
-            → at + sizes ts ≡ from + sizes (kids (treeOf left program n)) → Loading program n left rs from rs″ at′ next
-        go [] c w o = absurd (omega arith)
-        go (t ∷ ts) (a, b, q, c) w o =
+            → at + sizes ts ≡ from + sizes (kids (treeOf left program n)) → All Measurable ts → Loading program n left rs from rs″ at′ next
+        go [] c w o m = absurd (omega arith)
+        go (t ∷ ts) (a, b, q, c) w o (_, m) =
             let i : next ≡ nextOf program child = e ∙ l .linked .links .next child z b in
             record {
               trees = ts;
@@ -113,8 +166,9 @@ module _ (program : List Record) (n left : ℕ) (rs : List Record) (from : ℕ) 
               written = (rw (d .records, d .end, ← q)) ∙ sym (puts-append rs′ at (preorder t) (preorders ts)) ∙ w;
               ends = omega (arith, stored-end (treeOf (left - 1) program child) d, ap size q);
               room = l .room;
+              small = m;
               linked = l .linked;
               enough = l .enough;
             }
 
-pub ruleset loading = (load-root, load-left, load-left-falls, load-starts, load-ends, load-place-fits, load-child, load-reads, load-falls, load-goes-on)
+pub ruleset loading = (load-root, load-left, load-left-falls, load-starts, load-marks, load-ends, load-place-fits, load-child, load-reads, load-falls, load-goes-on)

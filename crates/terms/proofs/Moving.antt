@@ -1,147 +1,75 @@
--- `copy_flat`: the laws of its loop, which copies a byte a turn, and what the bytes are as records then. `moving` for search.
-use Prim.Native.Nat.{ℕ, _+_, _-_, _*_, _/_, _^_, _≤_, _<_}
+-- `copy_flat`: the laws of its loop, which copies a record a turn. `moving` for search.
+use Prim.Native.Nat.{ℕ, _+_, _^_, _≤_, _<_}
 use native.Mathlib.Omega.{arith}
-use native.Mathlib.Decide.{decLt}
-use mathlib.Core.Path.{_≡_, refl, sym, ap, _∙_}
+use mathlib.Core.Path.{_≡_, refl, sym, ap, ap₂, _∙_}
 use mathlib.Core.Logic.{⊎-elim, _⊎_, inl, inr}
-use mathlib.Core.List.{List}
-use lib.ListN.{length, getD, set, take, drop, length-set, length-drop}
-use lib.Seq.{length-take-le, getD-set-same, getD-set-other, getD-take, getD-drop, ext-getD}
+use mathlib.Core.List.{List, [], _∷_, _++_}
+use lib.ListN.{length, getD, set}
 use mir.Syntax.{w64}
 use mir.Val.{Fits}
-use Rattle.rules.specs.Format.{recordOf, noRecord}
-use Rattle.records.specs.View.{recordsIn}
-use Rattle.records.proofs.Fields.{record-form}
-use Rattle.records.proofs.Records.{records-length, records-read, records-room}
-use Rattle.terms.specs.Preorder.{puts, part}
+use Rattle.rules.specs.Format.{Record, noRecord}
+use Rattle.records.specs.View.{recordsIn, RecordPut}
+use Rattle.records.proofs.Records.{records-length}
+use Rattle.terms.specs.Preorder.{puts, part, Apart}
 use Rattle.terms.specs.Moves.{CanMove, Moved}
-use Rattle.terms.proofs.Puts.{length-puts, puts-same, puts-other, length-part}
+use Rattle.terms.proofs.Puts.{length-puts, puts-append, puts-other, length-part, part-add, part-cons}
 
--- After i bytes from src on are copied to dst.
-pub record Copying (s s′ : List ℕ) (src dst i : ℕ) : Type 0 where
-  pub same : length s′ ≡ length s
-  pub there : (j : ℕ) → j < i → getD s′ (dst + j) 0 ≡ getD s (src + j) 0
-  pub others : (j : ℕ) → (j < dst) ⊎ (dst + i ≤ j) → getD s′ j 0 ≡ getD s j 0
+-- Parts that have no record in common can be copied either way.
+pub apart-moves : (src dst n : ℕ) → Apart src dst n → (src + n ≤ dst) ⊎ (dst ≤ src)
+apart-moves src dst n = ⊎-elim (λ p. inl p) (λ p. inr (omega arith))
 
-copy-starts : (s : List ℕ) (src dst : ℕ) → Copying s s src dst 0
-copy-starts s src dst = record { same = refl; there = λ j l. absurd (omega arith); others = λ j h. refl }
+-- The first i of the n records are copied.
+pub record Copying (rs rs′ : List Record) (src dst n i : ℕ) : Type 0 where
+  pub is : rs′ ≡ puts rs dst (part rs src i)
+  pub most : i ≤ n
 
--- One byte more: what is read is still what stood there first.
-copy-goes-on : (s s′ : List ℕ) (src dst i : ℕ) → (src + i < dst) ⊎ (dst + i ≤ src + i) → dst + i < length s → Copying s s′ src dst i
-    → Copying s (set s′ (dst + i) (getD s′ (src + i) 0)) src dst (i + 1)
-copy-goes-on s s′ src dst i apart room h =
-    let x = getD s′ (src + i) 0 in
-    let e : x ≡ getD s (src + i) 0 = h .others (src + i) apart in
-    let l : length s′ ≡ length s = h .same in
-    let at : (j : ℕ) → j < i + 1 → Dec (j < i) → getD (set s′ (dst + i) x) (dst + j) 0 ≡ getD s (src + j) 0 = λ j b d. elim d [
-      | yes p ↦ getD-set-other s′ (dst + i) (dst + j) x 0 (λ q. omega arith) ∙ h .there j p
-      | no p ↦ let q : j ≡ i = omega arith in rw q (getD-set-same s′ (dst + i) x 0 (omega arith) ∙ e)
-    ] in
-    record {
-      same = length-set s′ (dst + i) x ∙ l;
-      there = λ j b. at j b (decLt j i);
-      others = λ j b.
-          getD-set-other s′ (dst + i) j x 0 (⊎-elim (λ p q. omega arith) (λ p q. omega arith) b)
-          ∙ h .others j (⊎-elim (λ p. inl p) (λ p. inr (omega arith)) b);
-    }
+module _ (rs : List Record) (src dst n : ℕ) (h : CanMove rs src dst n) where
+  pub move-starts : Copying rs rs src dst n 0
+  unfolding puts
+  move-starts = record { is = refl; most = omega arith }
 
--- A record is read from its 16 bytes alone.
-read-alike : (s s′ : List ℕ) (x y : ℕ) → x + 16 ≤ length s → y + 16 ≤ length s′ → ((k : ℕ) → k < 16 → getD s (x + k) 0 ≡ getD s′ (y + k) 0)
-    → recordOf (drop x s) ≡ recordOf (drop y s′)
-read-alike s s′ x y p q h =
-    let l : length (take 16 (drop x s)) ≡ 16 = length-take-le 16 (drop x s) (omega (arith, length-drop x s)) in
-    let m : length (take 16 (drop y s′)) ≡ 16 = length-take-le 16 (drop y s′) (omega (arith, length-drop y s′)) in
-    let e : take 16 (drop x s) ≡ take 16 (drop y s′) = ext-getD 0 _ _ (l ∙ sym m)
-    (λ k b. getD-take 16 (drop x s) k 0 (omega arith) ∙ getD-drop x s k 0 ∙ h k (omega arith)
-    ∙ sym (getD-take 16 (drop y s′) k 0 (omega arith) ∙ getD-drop y s′ k 0)) in
-    sym (record-form .front (drop x s)) ∙ ap recordOf e ∙ record-form .front (drop y s′)
+  module _ (rs′ : List Record) (i : ℕ) (m : Copying rs rs′ src dst n i) where
+    same-length : length rs′ ≡ length rs
+    same-length = ap length (m .is) ∙ length-puts rs dst (part rs src i)
 
-module _ (s : List ℕ) (src dst n : ℕ) (h : CanMove (recordsIn s) src dst n) where
-  -- Both parts, in bytes.
-  from-bytes : 16 * src + 16 * n ≤ length s
-  from-bytes = omega (arith, h .from, records-length s)
+    pub move-reads : i < n → src + i < length rs′
+    move-reads l = omega (arith, same-length, h .from)
 
-  to-bytes : 16 * dst + 16 * n ≤ length s
-  to-bytes = omega (arith, h .to, records-length s)
+    pub move-writes : i < n → dst + i < length rs′
+    move-writes l = omega (arith, same-length, h .to)
 
-  pub move-starts : Copying s s (16 * src) (16 * dst) 0
-  move-starts = copy-starts s (16 * src) (16 * dst)
+    -- What is read is still what stood there first.
+    still : i < n → getD rs′ (src + i) noRecord ≡ getD rs (src + i) noRecord
+    still l =
+        let c = length-part rs src i (omega (arith, h .from)) in
+        ap (λ x. getD x (src + i) noRecord) (m .is) ∙ puts-other rs dst (part rs src i) (src + i) (⊎-elim (λ p. inl (omega arith)) (λ p. inr (omega arith)) (h .apart))
 
-  module _ (s′ : List ℕ) (i : ℕ) (m : Copying s s′ (16 * src) (16 * dst) i) where
-    pub move-reads : i < 16 * n → 16 * src + i < length s′
-    move-reads l = omega (arith, m .same, from-bytes)
+    pub move-ends : n ≤ i → Moved rs rs′ src dst n
+    move-ends l = let e : i ≡ n = omega (arith, m .most) in record { is = rw e at (m .is) }
 
-    pub move-writes : i < 16 * n → 16 * dst + i < length s′
-    move-writes l = omega (arith, m .same, to-bytes)
+module _ (s : List ℕ) (src dst n : ℕ) (h : CanMove (recordsIn s) src dst n) (s′ : List ℕ) (i : ℕ) (m : Copying (recordsIn s) (recordsIn s′) src dst n i) (l : i < n) where
+  pub move-goes-on : (r : Record) (s″ : List ℕ) → r ≡ getD (recordsIn s′) (src + i) noRecord → RecordPut s′ (dst + i) r s″ → Copying (recordsIn s) (recordsIn s″) src dst n (i + 1)
+  unfolding puts
+  move-goes-on r s″ e p =
+      let c = length-part (recordsIn s) src i (omega (arith, h .from)) in
+      let x = getD (recordsIn s) (src + i) noRecord in
+      let one : part (recordsIn s) (src + i) 1 ≡ x ∷ [] = part-cons (recordsIn s) (src + i) 0 (omega (arith, h .from)) in
+      record {
+        is = p .things ∙ ap₂ (λ rs y. set rs (dst + i) y) (m .is) (e ∙ still (recordsIn s) src dst n h (recordsIn s′) i m l)
+            ∙ ap (λ k. set (puts (recordsIn s) dst (part (recordsIn s) src i)) (dst + k) x) (sym c)
+            ∙ sym (puts-append (recordsIn s) dst (part (recordsIn s) src i) (x ∷ []))
+            ∙ ap (puts (recordsIn s) dst) (ap (_++_ (part (recordsIn s) src i)) (sym one) ∙ sym (part-add (recordsIn s) src i 1));
+        most = omega arith;
+      }
 
-    pub move-goes-on : i < 16 * n → Copying s (set s′ (16 * dst + i) (getD s′ (16 * src + i) 0)) (16 * src) (16 * dst) (i + 1)
-    move-goes-on l = copy-goes-on s s′ (16 * src) (16 * dst) i (⊎-elim (λ p. inl (omega arith)) (λ p. inr (omega arith)) (h .apart)) (omega (arith, to-bytes)) m
+  module _ (b : length s < 2 ^ 64) where
+    pub move-read-fits : Fits w64 (src + i)
+    move-read-fits = omega (arith, h .from, records-length s)
 
-  module _ (s′ : List ℕ) (m : Copying s s′ (16 * src) (16 * dst) (16 * n)) where
-    count : length (part (recordsIn s) src n) ≡ n
-    count = length-part (recordsIn s) src n (h .from)
+    pub move-write-fits : Fits w64 (dst + i)
+    move-write-fits = omega (arith, h .to, records-length s)
 
-    many : length (recordsIn s′) ≡ length (recordsIn s)
-    many = records-length s′ ∙ ap (λ k. k / 16) (m .same) ∙ sym (records-length s)
+    pub move-next-fits : Fits w64 (i + 1)
+    move-next-fits = omega (arith, h .to, records-length s)
 
-    -- Record j of what is copied, and of the others.
-    copied-there : (j : ℕ) → j < n → getD (recordsIn s′) (dst + j) noRecord ≡ getD (recordsIn s) (src + j) noRecord
-    copied-there j l =
-        let a : dst + j < length (recordsIn s′) = omega (arith, many, h .to) in
-        let b : src + j < length (recordsIn s) = omega (arith, h .from) in
-        records-read s′ (dst + j) a
-        ∙ read-alike s′ s (16 * (dst + j)) (16 * (src + j)) (records-room s′ (dst + j) a) (records-room s (src + j) b)
-        (λ k c. ap (λ x. getD s′ x 0) (shifted dst j k) ∙ m .there (16 * j + k) (omega arith) ∙ ap (λ x. getD s x 0) (sym (shifted src j k)))
-        ∙ sym (records-read s (src + j) b)
-      where
-        shifted : (a j k : ℕ) → 16 * (a + j) + k ≡ 16 * a + (16 * j + k)
-        shifted a j k = omega arith
-
-    others-there : (j : ℕ) → j < length (recordsIn s) → (j < dst) ⊎ (dst + n ≤ j) → getD (recordsIn s′) j noRecord ≡ getD (recordsIn s) j noRecord
-    others-there j l b =
-        let a : j < length (recordsIn s′) = omega (arith, many) in
-        records-read s′ j a
-        ∙ read-alike s′ s (16 * j) (16 * j) (records-room s′ j a) (records-room s j l) (λ k c. m .others (16 * j + k) (⊎-elim (λ p. inl (omega arith)) (λ p. inr (omega arith)) b))
-        ∙ sym (records-read s j l)
-
-    each : (j : ℕ) → j < length (recordsIn s) → Dec (j < dst) → Dec (j < dst + n) → getD (recordsIn s′) j noRecord ≡ getD (puts (recordsIn s) dst (part (recordsIn s) src n)) j noRecord
-    each j l (yes p) d = others-there j l (inl p) ∙ sym (puts-other (recordsIn s) dst (part (recordsIn s) src n) j (inl p))
-    each j l (no p) (no q) = others-there j l (inr (omega arith)) ∙ sym (puts-other (recordsIn s) dst (part (recordsIn s) src n) j (inr (omega (arith, count))))
-    each j l (no p) (yes q) =
-        let e : dst + (j - dst) ≡ j = omega arith in
-        let k = j - dst in
-        ap (λ x. getD (recordsIn s′) x noRecord) (sym e)
-        ∙ copied-there k (omega arith)
-        ∙ sym (getD-take n (drop src (recordsIn s)) k noRecord (omega arith) ∙ getD-drop src (recordsIn s) k noRecord)
-        ∙ sym (puts-same (recordsIn s) dst (part (recordsIn s) src n) k (omega (arith, count)) (omega (arith, count, h .to)))
-        ∙ ap (λ x. getD (puts (recordsIn s) dst (part (recordsIn s) src n)) x noRecord) e
-
-    all-moved : Moved (recordsIn s) (recordsIn s′) src dst n
-    all-moved = record {
-      is = ext-getD noRecord _ _ (many ∙ sym (length-puts (recordsIn s) dst (part (recordsIn s) src n)))
-          (λ j l. each j (omega (arith, many)) (decLt j dst) (decLt j (dst + n)));
-    }
-
-  pub move-ends : (s′ : List ℕ) (i : ℕ) → Copying s s′ (16 * src) (16 * dst) i → i ≤ 16 * n → 16 * n ≤ i → Moved (recordsIn s) (recordsIn s′) src dst n
-  move-ends s′ i m a b = let e : i ≡ 16 * n = omega arith in all-moved s′ (rw e at m)
-
-  pub move-from-fits : length s < 2 ^ 64 → Fits w64 (16 * src)
-  move-from-fits b = omega (arith, from-bytes)
-
-  pub move-to-fits : length s < 2 ^ 64 → Fits w64 (16 * dst)
-  move-to-fits b = omega (arith, to-bytes)
-
-  pub move-count-fits : length s < 2 ^ 64 → Fits w64 (16 * n)
-  move-count-fits b = omega (arith, to-bytes)
-
-  pub move-read-fits : (i : ℕ) → i < 16 * n → length s < 2 ^ 64 → Fits w64 (16 * src + i)
-  move-read-fits i l b = omega (arith, from-bytes)
-
-  pub move-write-fits : (i : ℕ) → i < 16 * n → length s < 2 ^ 64 → Fits w64 (16 * dst + i)
-  move-write-fits i l b = omega (arith, to-bytes)
-
-  pub move-next-fits : (i : ℕ) → i < 16 * n → length s < 2 ^ 64 → Fits w64 (i + 1)
-  move-next-fits i l b = omega (arith, to-bytes)
-
-pub ruleset moving =
-    (move-starts, move-reads, move-writes, move-goes-on, move-ends, move-from-fits, move-to-fits, move-count-fits, move-read-fits, move-write-fits, move-next-fits)
+pub ruleset moving = (move-starts, move-reads, move-writes, move-goes-on, move-ends, move-read-fits, move-write-fits, move-next-fits)

@@ -1,34 +1,47 @@
--- A term in a list of records: document 01's "tree of records without links", in preorder. The kind gives the number of children, so that the
--- list is the tree; first and next are 0.
-use Prim.Native.Nat.{ℕ, _+_, _<_, _≤_}
+-- A term in a list of records: document 01's "tree of records without links", in preorder. In place of links the record of a root holds measures of
+-- its tree: first, how many records the tree has; next, how far its free indices reach and whether it is plain. So a tree is passed over, told
+-- closed or told plain by one read. The measures turn on the tree alone, so that a block copy of a tree carries right measures with it.
+use Prim.Native.Nat.{ℕ, _+_, _*_, _≤_}
 use mathlib.Core.List.{List, [], _∷_, _++_}
 use mathlib.Core.Logic.{_⊎_}
 use mathlib.Core.Path.{_≡_}
-use lib.ListN.{length, getD, set, take, drop}
+use lib.ListN.{length, set, take, drop}
+use Rattle.rules.specs.Lists.{pick}
 use Rattle.rules.specs.Terms.{Term, leaf, unary, binary, ternary, rootKind, fieldsOf, size}
-use Rattle.rules.specs.Format.{Record, noRecord}
+use Rattle.rules.specs.FreeBounds.{freeBound}
+use Rattle.rules.specs.Values.{plain}
+use Rattle.rules.specs.Format.{Record}
 use Rattle.rules.specs.Links.{linked}
 
--- The record of a term's root.
-abbrev pub head : Term → Record
-head t = linked (rootKind t) (fieldsOf t) 0 0
+-- The free bound and whether the tree is plain, in one number.
+abbrev pub boundAndPlain : Term → ℕ
+boundAndPlain t = 2 * freeBound t + pick (plain t) 1 0
 
--- The records of a term.
+-- The record of a term's root, with the measures of its tree.
+abbrev pub head : Term → Record
+head t = linked (rootKind t) (fieldsOf t) (size t) (boundAndPlain t)
+
+-- The records of a term, each with its measures.
 unfoldable pub preorder : Term → List Record
 preorder (leaf k f) = head (leaf k f) ∷ []
 preorder (unary k f t) = head (unary k f t) ∷ preorder t
 preorder (binary k f t u) = head (binary k f t u) ∷ (preorder t ++ preorder u)
 preorder (ternary k f t s e) = head (ternary k f t s e) ∷ (preorder t ++ (preorder s ++ preorder e))
 
--- The records from i on begin with those of t.
-unfoldable pub At : List Record → ℕ → Term → Type 0
-At rs i (leaf k f) = (i < length rs) × (getD rs i noRecord ≡ head (leaf k f))
-At rs i (unary k f t) = (i < length rs) × (getD rs i noRecord ≡ head (unary k f t)) × At rs (i + 1) t
-At rs i (binary k f t u) = (i < length rs) × (getD rs i noRecord ≡ head (binary k f t u)) × At rs (i + 1) t × At rs (i + 1 + size t) u
-At rs i (ternary k f t s e) =
-    (i < length rs) × (getD rs i noRecord ≡ head (ternary k f t s e)) × At rs (i + 1) t × At rs (i + 1 + size t) s × At rs (i + 1 + size t + size s) e
+-- n records from i on.
+abbrev pub part : List Record → ℕ → ℕ → List Record
+part rs i n = take n (drop i rs)
 
--- Some tree stands at i.
+-- The records xs stand in rs from place i on.
+pub record There (rs : List Record) (i : ℕ) (xs : List Record) : Type 0 where
+  pub within : i + length xs ≤ length rs
+  pub is : part rs i (length xs) ≡ xs
+
+-- The tree t stands at i.
+pub record At (rs : List Record) (i : ℕ) (t : Term) : Type 0 where
+  pub there : There rs i (preorder t)
+
+-- Some tree does.
 pub record HasTree (rs : List Record) (i : ℕ) : Type 0 where
   pub tree : Term
   pub there : At rs i tree
@@ -46,10 +59,6 @@ puts rs i (v ∷ vs) = puts (set rs i v) (i + 1) vs
 pub record Stored (rs rs′ : List Record) (dst : ℕ) (vs : List Record) (r : ℕ) : Type 0 where
   pub records : rs′ ≡ puts rs dst vs
   pub end : r ≡ dst + length vs
-
--- n records from i on.
-abbrev pub part : List Record → ℕ → ℕ → List Record
-part rs i n = take n (drop i rs)
 
 -- n records from src on and n from dst on have none in common.
 abbrev pub Apart : ℕ → ℕ → ℕ → Type 0

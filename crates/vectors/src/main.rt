@@ -12,7 +12,9 @@ fn print_file(name: &[u8]) {
     libc::close(fd);
     io::write_all(STDOUT_FILENO, name);
     io::write_all(STDOUT_FILENO, b"\n");
-    printing::print_listing(&input[..n]);
+    if !printing::print_listing(&input[..n]) {
+        os::fail(name);
+    }
 }
 
 fn print_files(names: &[u8]) {

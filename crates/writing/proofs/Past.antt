@@ -15,7 +15,9 @@ use Rattle.writing.specs.Slots.{Filled, HasSlot, Heads, Links}
 use Rattle.writing.specs.State.{movedOn}
 use Rattle.writing.specs.Tree.{Writable, WroteTree, Writes}
 use Rattle.writing.proofs.Slots.{filled-length, filled-one, filled-then, filled-linked}
-use Rattle.terms.proofs.Children.{kids, AtAll, kids-at}
+use Rattle.terms.specs.Preorder.{There}
+use Rattle.terms.specs.Children.{kids, preorders}
+use Rattle.terms.proofs.Trees.{kids-there, first-tree, later-trees}
 use Rattle.writing.proofs.Children.{laidAll, length-laidAll, laid-children, headed-root, children-of-root, few-children, rootLaid, relinked}
 
 -- Of the tree t at i, `front` is written from the state st on. The children ts are left: they stand at `place`, and st′ is the state for them.
@@ -24,7 +26,7 @@ pub record Left (ws : List Record) (i : ℕ) (s : List ℕ) (st : Writer) (t : T
   pub some : 1 ≤ length front
   pub whole : laid (st .number) 0 t ≡ front ++ laidAll ts (st′ .number)
   pub filled : Filled s (st .number - 1) front s′
-  pub rest : AtAll ws place ts
+  pub rest : There ws place (preorders ts)
   pub number : st′ .number ≡ st .number + length front
   pub long : st′ .length ≡ st .length + 16 * length front
   pub next : place ≡ i + length front
@@ -50,7 +52,7 @@ root-written ws i s st t s′ count b h =
         some = omega arith;
         whole = laid-children (st .number) t;
         filled = filled-one s (st .number - 1) _ s′ (rw e at (b .put));
-        rest = kids-at ws i t (h .there);
+        rest = kids-there ws i t (h .there);
         number = omega arith;
         long = omega arith;
         next = omega arith;
@@ -77,12 +79,11 @@ module _ (ws : List Record) (i : ℕ) (s : List ℕ) (st : Writer) (t : Term) (h
 
   -- The next child can be written.
   pub child-writable : (u : Term) (us : List Term) → Left ws i s st t s₁ place st₁ (u ∷ us) → Writable ws place s₁ st₁ u
-  unfolding AtAll
   child-writable u us l =
       let z = sizes (u ∷ us) l in
       let y = length-laidAll u us (st₁ .number) in
       record {
-        there = l .rest .0;
+        there = first-tree ws place u us (l .rest);
         counted = omega (arith, l .number, h .counted);
         few = omega (arith, l .number, h .few);
         room = omega (arith, l .number, h .counted, h .room, filled-length s (st .number - 1) (l .front) s₁ (l .filled));
@@ -121,7 +122,7 @@ module _ (ws : List Record) (i : ℕ) (s : List ℕ) (st : Writer) (t : Term) (h
     -- It was not the last, and its root is linked to the next: one more child is past.
     pub child-linked : (u v : Term) (vs : List Term) (s₃ : List ℕ) → Links s₂ (st₁ .number) (r .state .number) s₃ → Left ws i s st t s₁ place st₁ (u ∷ v ∷ vs)
         → Left ws i s st t s₃ (r .next) (r .state) (v ∷ vs)
-    unfolding AtAll laidAll
+    unfolding laidAll
     child-linked u v vs s₃ k l =
         let w = child-writable u (v ∷ vs) l in
         let q = f .does u w in
@@ -134,7 +135,7 @@ module _ (ws : List Record) (i : ℕ) (s : List ℕ) (st : Writer) (t : Term) (h
           some = omega (arith, l .some);
           whole = l .whole ∙ rw (← q .number) (sym (append-assoc (l .front) _ _));
           filled = filled-then s (st .number - 1) (l .front) _ s₁ s₃ (l .filled) (rw (slot (u ∷ v ∷ vs) l, ← x .beside) at linked);
-          rest = rw (q .next) (l .rest .1);
+          rest = rw (q .next) (later-trees ws place u (v ∷ vs) (l .rest));
           number = omega (arith, q .number, l .number);
           long = omega (arith, q .long, l .long);
           next = omega (arith, q .next, l .next);

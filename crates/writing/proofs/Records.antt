@@ -1,15 +1,14 @@
 -- The laws of `write_records`: a tree's records from a place of the buffer on, as bytes. Assumes nothing.
-use Prim.Native.Nat.{ℕ, suc, _+_, _-_, _*_, _^_, _≤_, _<_}
+use Prim.Native.Nat.{ℕ, _+_, _-_, _*_, _^_, _≤_, _<_}
 use native.Mathlib.Omega.{arith}
 use native.Mathlib.Nat.{zero-add}
 use mathlib.Core.Path.{_≡_, refl, sym, ap, ap₂, subst, _∙_}
-use mathlib.Core.Logic.{inl}
-use mathlib.Core.List.{List, [], _∷_, _++_, append-nil}
-use lib.ListN.{length, take, drop, set, length-set, length-drop, take-append-drop}
-use lib.Seq.{length-take-le, take-all, drop-at, drop-drop, drop-length, getD-set-same}
+use mathlib.Core.List.{List, _++_, append-nil}
+use lib.ListN.{length, take, drop, length-drop, take-append-drop}
+use lib.Seq.{length-take-le, take-all, drop-at, drop-drop, drop-length}
 use Rattle.rules.specs.Lists.{joined}
 use Rattle.rules.specs.Terms.{Term}
-use Rattle.rules.specs.Format.{Record, noRecord, recordOf, recordBytes}
+use Rattle.rules.specs.Format.{Record, recordOf, recordBytes}
 use Rattle.rules.specs.Links.{laid}
 use Rattle.rules.proofs.Laid.{length-laid}
 use Rattle.rules.proofs.Bytes.{RecordFits, record-back, joined-length}
@@ -17,26 +16,11 @@ use Rattle.records.specs.Overwritten.{overwritten}
 use Rattle.records.specs.View.{recordsIn}
 use Rattle.records.proofs.Form.{AreBytes, bytes-drop}
 use Rattle.records.proofs.Records.{records-length, records-joined-front}
-use Rattle.terms.specs.Preorder.{puts, part}
-use Rattle.terms.proofs.Puts.{length-puts, puts-other, part-cons}
+use Rattle.terms.proofs.There.{there-put}
 use Rattle.writing.specs.declared.Written.{Written}
 use Rattle.writing.specs.Slots.{Filled}
 use Rattle.writing.specs.Tree.{Writable, CanWrite, WroteTree, Writes}
 use Rattle.writing.specs.Program.{RecordsFit, CanWriteRecords, WroteRecords, WritesRecords}
-
--- Records that are written are there.
-part-put : (rs : List Record) (i : ℕ) (vs : List Record) → i + length vs ≤ length rs → part (puts rs i vs) i (length vs) ≡ vs
-unfolding puts
-part-put rs i [] h = refl
-part-put rs i (v ∷ vs) h =
-    let l = length-set rs i v in
-    let l′ = length-puts (set rs i v) (i + 1) vs in
-    ap (part (puts (set rs i v) (i + 1) vs) i) (one-more (length vs))
-    ∙ part-cons (puts (set rs i v) (i + 1) vs) i (length vs) (omega arith)
-    ∙ ap₂ _∷_ (puts-other (set rs i v) (i + 1) vs i (inl (omega arith)) ∙ getD-set-same rs i v noRecord (omega arith)) (part-put (set rs i v) (i + 1) vs (omega arith))
-  where
-    one-more : (n : ℕ) → suc n ≡ 1 + n
-    one-more n = omega arith
 
 pub joined-records : (rs : List Record) → length (joined recordBytes rs) ≡ 16 * length rs
 joined-records = joined-length recordOf recordBytes 16 RecordFits (λ x. refl) record-back
@@ -47,7 +31,7 @@ filled-bytes : (s : List ℕ) (vs : List Record) (s′ : List ℕ) → Filled s 
 filled-bytes s vs s′ p b l h =
     let n : length vs ≤ length (recordsIn s) = omega (arith, records-length s) in
     let e = rw (zero-add (length vs)) at (p .beyond) in
-    let f : take (length vs) (recordsIn s′) ≡ vs = ap (take (length vs)) (p .slots) ∙ part-put (recordsIn s) 0 vs (omega arith) in
+    let f : take (length vs) (recordsIn s′) ≡ vs = ap (take (length vs)) (p .slots) ∙ there-put (recordsIn s) 0 vs (omega arith) .is in
     sym (take-append-drop (16 * length vs) s′) ∙ ap₂ _++_ (records-joined-front s′ (length vs) b (omega arith) ∙ ap (joined recordBytes) f) e
 
 -- The part of the buffer from `start` on, as the code lends it and as it comes back.

@@ -1,6 +1,6 @@
 // A term written out as a program: the two counts, the type table, and the records in preorder, numbered as they are written.
-// Of the term, which is read from a list of records without links, no tree is walked twice: a record is written before its children,
-// and the link to a sibling is put in once the sibling's number is known.
+// Of the term, which is read from a list of records with measures in place of links, no tree is walked twice: a record is written before its
+// children, and the link to a sibling is put in once the sibling's number is known.
 ghost use Prim.Native.Nat.{_+_, _<_, _≤_};
 ghost use mathlib.Core.Path.{_≡_};
 ghost use lib.Dec.{eqb};

@@ -2,57 +2,78 @@
 use Prim.Native.Nat.{ℕ, _≤_, _<_}
 use native.Mathlib.Omega.{arith}
 use mathlib.Core.List.{List}
+use mathlib.Core.Bool.{Bool, true, false}
 use mathlib.Core.Logic.{_≢_}
-use mathlib.Core.Path.{_≡_, subst}
+use mathlib.Core.Path.{_≡_}
+use lib.ListN.{length}
+use Rattle.rules.specs.Kinds.{childCount, kindOf}
 use Rattle.rules.specs.Terms.{Term}
 use Rattle.rules.specs.Types.{Table}
+use Rattle.rules.specs.Contractions.{contracts}
 use Rattle.rules.specs.Format.{Record}
-use Rattle.contexts.specs.Contexts.{Context}
-use Rattle.zipper.specs.declared.ascending.Place.{Place}
-use Rattle.zipper.specs.Ascending.{Rests, CanAscend, Ascended, moved-on, valued, rewritten, again, AscendsOne, Ascends}
+use Rattle.contexts.specs.Contexts.{outerLevel, Context}
+use Rattle.zipper.specs.declared.focus.Focus.{Focus}
+use Rattle.zipper.specs.declared.ascending.Turn.the-variants.{Next, Value, Redex, Match}
+use Rattle.terms.specs.Measuring.{KindIs}
+use Rattle.zipper.specs.Focusing.{CanClose, Closes}
+use Rattle.zipper.specs.Ascending.{Rests, CanTellNext, TellsNext, sought, CanAscend, Ascends}
+use Rattle.zipper.proofs.Rows.{frame-in}
+use Rattle.zipper.proofs.Turns.{RestsIn, Framed, framed, outermost, frame-held, frame-tells, frame-closes, hole-goes-on, match-stays, closed-outward, closed-onward, closed-redex, closed-done}
 
--- Some focus of the same term is done.
-pub record RestsIn (types : Table) (rs : List Record) (p : Place) (whole : Term) : Type 0 where
-  pub context : Context
-  pub focus : Term
-  pub rests : Rests types rs p context focus whole
+-- The focus is done at each turn, and the right side only gets shorter.
+pub record Climbing (rs₀ : List Record) (z₀ : Focus) (l₀ : ℕ) (rs : List Record) (z : Focus) (l : ℕ) : Type 0 where
+  keeps : (types : Table) (C : Context) (t whole : Term) → Rests types rs₀ z₀ l₀ C t whole → RestsIn types rs z l whole
+  onward : z₀ .r ≤ z .r
+  some : CanAscend rs₀ z₀ l₀
 
-pub record Climbing (rs₀ : List Record) (p₀ : Place) (rs : List Record) (p : Place) : Type 0 where
-  pub keeps : (types : Table) (C : Context) (t whole : Term) → Rests types rs₀ p₀ C t whole → RestsIn types rs p whole
-  pub outward : p .focus .s ≤ p₀ .focus .s
+pub climb-starts : (rs : List Record) (z : Focus) (l : ℕ) → CanAscend rs z l → Climbing rs z l rs z l
+climb-starts rs z l h = record { keeps = λ types C t whole r. record { context = C; focus = t; rests = r }; onward = omega arith; some = h }
 
-pub climb-starts : (rs : List Record) (p : Place) → Climbing rs p rs p
-climb-starts rs p = record { keeps = λ types C t whole h. record { context = C; focus = t; rests = h }; outward = omega arith }
+module _ (rs₀ : List Record) (z₀ : Focus) (l₀ : ℕ) (rs : List Record) (z : Focus) (l : ℕ) (i : Climbing rs₀ z₀ l₀ rs z l) where
+  pub climb-value : z .s ≡ 0 → Ascends rs₀ rs z₀ l₀ (Value z)
+  climb-value e = record { does = λ types C t whole h. sought _ (outermost e (i .keeps types C t whole h)) }
 
-module _ (rs₀ : List Record) (p₀ : Place) (rs : List Record) (p : Place) (i : Climbing rs₀ p₀ rs p) where
-  pub climb-can : CanAscend rs₀ p₀ → CanAscend rs p
-  climb-can h = let k = i .keeps (h .types) (h .context) (h .focus) (h .whole) (h .rests) in
-      record { types = h .types; context = k .context; focus = k .focus; whole = h .whole; rests = k .rests }
+  module _ (n : z .s ≢ 0) where
+    each : (types : Table) (C : Context) (t whole : Term) → Rests types rs₀ z₀ l₀ C t whole → Framed types rs z l whole
+    each types C t whole h = framed n (i .keeps types C t whole h)
 
-  module _ (rs′ : List Record) (r : Place) (a : AscendsOne rs rs′ p r) where
-    turned : (types : Table) (C : Context) (t whole : Term) → Rests types rs₀ p₀ C t whole → Ascended types rs′ (p .focus .s) r whole (r .status)
-    turned types C t whole h = let k = i .keeps types C t whole h in a .does types (k .context) (k .focus) whole (k .rests)
+    one : Framed (i .some .types) rs z l (i .some .whole)
+    one = each (i .some .types) (i .some .context) (i .some .focus) (i .some .whole) (i .some .rests)
 
-    pub climb-ends : r .status ≢ 3 → Ascends rs₀ rs′ p₀ r
-    climb-ends n = record { does = λ types C t whole h. told types whole (r .status) (turned types C t whole h); ends = n }
-      where
-        told : (types : Table) (whole : Term) (m : ℕ) → Ascended types rs′ (p .focus .s) r whole m → Ascended types rs′ (p₀ .focus .s) r whole m
-        told types whole _ (moved-on C t h) = moved-on C t h
-        told types whole _ (valued v h) = valued v h
-        told types whole _ (rewritten C t h y c) = rewritten C t h y c
-        told types whole _ (again C t h l) = again C t h (omega (arith, i .outward))
+    pub climb-in : z .top < length rs
+    climb-in = frame-in rs z (frame-held one)
 
-    module _ (e : r .status ≡ 3) where
-      once-more : (types : Table) (C : Context) (t whole : Term) → Rests types rs₀ p₀ C t whole → RestsIn types rs′ r whole × (r .focus .s < p .focus .s)
-      once-more types C t whole h = told (subst (Ascended types rs′ (p .focus .s) r whole) e (turned types C t whole h))
-        where
-          told : Ascended types rs′ (p .focus .s) r whole 3 → RestsIn types rs′ r whole × (r .focus .s < p .focus .s)
-          told (again D u k l) = (record { context = D; focus = u; rests = k }, l)
+    pub climb-closes : CanClose rs z
+    climb-closes = frame-closes one
 
-      pub climb-less : CanAscend rs₀ p₀ → r .focus .s < p .focus .s
-      climb-less h = once-more (h .types) (h .context) (h .focus) (h .whole) (h .rests) .1
+    module _ (k lv : ℕ) (kd : KindIs rs (z .top) k) (v : lv ≡ outerLevel (kindOf k) l) where
+      pub climb-tells : CanTellNext rs z lv
+      climb-tells = frame-tells one k lv kd v
 
-      pub climb-more : CanAscend rs₀ p₀ → Climbing rs₀ p₀ rs′ r
-      climb-more h = record { keeps = λ types C t whole k. once-more types C t whole k .0; outward = omega (arith, climb-less h, i .outward) }
+      pub climb-low : lv ≤ 1
+      climb-low = climb-tells .low
 
-pub ruleset climbing = (climb-starts, climb-can, climb-ends, climb-less, climb-more)
+      module _ (b : Bool) (tn : TellsNext rs z lv b) where
+        pub climb-next : b ≡ true → Ascends rs₀ rs z₀ l₀ (Next (record { l = z .l; r = z .r; top = z .top; level = l }))
+        climb-next e = record { does = λ types C t whole h. hole-goes-on (each types C t whole h) k lv kd v b tn e (z₀ .r) (i .onward) }
+
+        module _ (e : b ≡ false) where
+          pub climb-match : (c : ℕ) → c ≡ childCount (kindOf k) → c ≡ 3 → Ascends rs₀ rs z₀ l₀ (Match z)
+          climb-match c o m = record { does = λ types C t whole h. sought _ (match-stays (each types C t whole h) k lv kd v b tn e c o m) }
+
+          module _ (rs′ : List Record) (r : Focus) (cl : Closes rs rs′ z r) where
+            pub climb-less : r .s < z .s
+            climb-less = closed-outward one k lv kd v b tn e rs′ r cl
+
+            module _ (y : Bool) (o : y ≡ contracts lv (kindOf k)) where
+              pub climb-redex : y ≡ true → (c : ℕ) → c ≡ childCount (kindOf k) → c ≢ 3 → Ascends rs₀ rs′ z₀ l₀ (Redex r lv)
+              climb-redex q c j m = record { does = λ types C t whole h. sought _ (closed-redex (each types C t whole h) k lv kd v b tn e rs′ r cl y o q c j m) }
+
+              pub climb-more : y ≡ false → Climbing rs₀ z₀ l₀ rs′ r lv
+              climb-more q = record {
+                keeps = λ types C t whole h. closed-done (each types C t whole h) k lv kd v b tn e rs′ r cl y o q;
+                onward = omega (arith, i .onward, closed-onward one k lv kd v b tn e rs′ r cl);
+                some = i .some;
+              }
+
+pub ruleset climbing = (climb-starts, climb-value, climb-in, climb-closes, climb-tells, climb-low, climb-next, climb-match, climb-less, climb-redex, climb-more)

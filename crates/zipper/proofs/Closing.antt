@@ -12,21 +12,20 @@ use Rattle.rules.specs.Types.{Table}
 use Rattle.rules.specs.Typing.{Typed}
 use Rattle.rules.specs.Format.{Record}
 use Rattle.rules.proofs.FreeBounds.{typed-bound}
-use Rattle.terms.specs.Preorder.{puts, part}
+use Rattle.terms.specs.Preorder.{puts, part, head}
 use Rattle.terms.specs.Moves.{CanMove, Moved}
-use Rattle.terms.specs.Children.{sizes}
+use Rattle.terms.specs.Children.{sizes, preorders}
 use Rattle.contexts.specs.Contexts.{Frame, fill, childrenBefore, childrenAfter, Context, plug}
 use Rattle.contexts.specs.Sides.{rightSize, topPlace}
 use Rattle.contexts.proofs.Contexts.{root-filled}
 use Rattle.contexts.proofs.Inside.{typed-inside, bounded-inside}
 use Rattle.contexts.proofs.Sides.{size-filled}
 use Rattle.zipper.specs.declared.focus.Focus.{Focus}
-use Rattle.zipper.specs.Measures.{marked, markedPreorders}
-use Rattle.zipper.specs.Measuring.{RootedAt, HasRooted, MarksRoot}
+use Rattle.terms.specs.Measuring.{RootedAt, HasRooted, MarksRoot}
 use Rattle.zipper.specs.Layout.{chained}
 use Rattle.zipper.specs.Focusing.{LinkIs, HasTrees, SkipsAll, LaidAt, HasFrame, CountsAfter, CanClose, Closes}
-use Rattle.zipper.proofs.There.{there-head}
-use Rattle.zipper.proofs.Measures.{length-all-marked}
+use Rattle.terms.proofs.There.{there-head}
+use Rattle.terms.proofs.Trees.{length-preorders}
 use Rattle.zipper.proofs.Places.{laid-few, at-start, own, frame-read, next-ones}
 use Rattle.zipper.proofs.Closed.{stays-before, kids-brought, frame-closed}
 use Rattle.zipper.proofs.Rows.{frame-in}
@@ -51,9 +50,9 @@ module _ (rs : List Record) (z : Focus) (F : Frame) (C : Context) (t : Term) (h 
   rooted : 2 * freeBound (fill F t) + 1 < 65536 → RootedAt brought (z .top) (fill F t)
   rooted b =
       let i = at-start rs F C (z .s) (z .r) (z .top) (h .around) in
-      let o = stays-before rs F C t (z .s) (z .l) (z .r) (z .top) h (z .top) (chained F (topPlace C) ∷ markedPreorders (childrenBefore F))
-      (omega (arith, length-all-marked (childrenBefore F), h .end)) (own rs F C (z .s) (z .r) (z .top) (h .around)) in
-      let (p, q) = there-head brought (z .top) (chained F (topPlace C)) (markedPreorders (childrenBefore F)) o in
+      let o = stays-before rs F C t (z .s) (z .l) (z .r) (z .top) h (z .top) (chained F (topPlace C) ∷ preorders (childrenBefore F))
+      (omega (arith, length-preorders (childrenBefore F), h .end)) (own rs F C (z .s) (z .r) (z .top) (h .around)) in
+      let (p, q) = there-head brought (z .top) (chained F (topPlace C)) (preorders (childrenBefore F)) o in
       let (k, f) = root-filled F t in
       let (x, y) = few-after rs z F C t h in
       record {
@@ -116,7 +115,7 @@ module _ (rs : List Record) (z : Focus) where
           does = λ F C t h b.
               let (p, q) = m .does (fill F t) (rooted-there F C t h b) in
               let c = frame-closed rs F C t (z .s) (z .l) (z .r) (z .top) h in
-              let x : rs₂ ≡ set (brought rs z F C t h) (z .top) (marked (fill F t)) = p ∙ ap (λ y. set y (z .top) (marked (fill F t))) (brought-is F C t h) in
+              let x : rs₂ ≡ set (brought rs z F C t h) (z .top) (head (fill F t)) = p ∙ ap (λ y. set y (z .top) (head (fill F t))) (brought-is F C t h) in
               let y : last ≡ z .l + sizes (childrenAfter F) = omega (arith, c .end) in
               let o : link ≡ topPlace C = k .is ∙ ap (λ r. r .first) (frame-read rs F C (z .s) (z .r) (z .top) (h .around) .1) in
               rw (x, y, end-is F C t h, o) c;

@@ -1,32 +1,35 @@
--- `steps_next`, `ascend_one`: the laws of a turn from a focus that is done. `telling` and `turning` for search.
-use Prim.Native.Nat.{ℕ, suc, _+_, _-_, _*_, _≤_, _<_}
+-- `steps_next`, and a turn of `ascend`: from a focus that is done to what its frame's record does then. `telling` for search.
+use Prim.Native.Nat.{ℕ, zero, suc, _+_, _-_, _*_, _≤_, _<_}
 use native.Mathlib.Omega.{arith}
 use mathlib.Core.List.{List, [], _∷_}
 use mathlib.Core.Bool.{Bool, true, false}
 use mathlib.Core.Logic.{_≢_}
-use mathlib.Core.Path.{_≡_, refl, sym, ap, _∙_}
-use lib.Dec.{T, ltb}
-use lib.ListN.{length}
-use Rattle.rules.specs.Kinds.{Kind, leaf₀, unary₁, binary₂, ternary₃, function, fix, lift, quote, splice, childCount, kindOf}
-use Rattle.rules.specs.Terms.{Term}
+use mathlib.Core.Path.{_≡_, refl, sym, ap, ap₂, _∙_, subst}
+use lib.Dec.{T, ltb, ltb→lt, eqb, eqb·suc-zero}
+use Rattle.rules.specs.Kinds.{Ternary, match, Kind, leaf₀, unary₁, binary₂, ternary₃, function, fix, lift, quote, splice, childCount, kindOf}
+use Rattle.rules.specs.Terms.{Fields, Term, ternary}
 use Rattle.rules.specs.FreeBounds.{freeBound}
 use Rattle.rules.specs.Types.{Table}
-use Rattle.rules.specs.Values.{value, done}
+use Rattle.rules.specs.Values.{done}
 use Rattle.rules.specs.Contractions.{contracts}
 use Rattle.rules.specs.Steps.{stepping, stepsChild}
 use Rattle.rules.specs.Format.{Record}
-use Rattle.rules.proofs.KindTable.{kind-back}
-use Rattle.contexts.specs.Contexts.{Frame, fill, frameKind, holeNumber, holeLevel, outerLevel, StepsHole, Context, plug, levelAt, leftSize, Evaluation}
-use Rattle.contexts.specs.Moving.{Ready, MovedOn}
+use Rattle.rules.proofs.General.{picked}
+use Rattle.rules.proofs.KindTable.{each-kind, kind-back}
+use Rattle.contexts.specs.Contexts.{Frame, only, first, second, first₃, second₃, third₃, fill, frameKind, holeNumber, holeLevel, outerLevel, StepsHole, Context, plug, levelAt, leftSize, Evaluation}
+use Rattle.contexts.specs.Sides.{rightSize}
+use Rattle.contexts.specs.Moving.{Ready}
 use Rattle.contexts.proofs.Contexts.{root-filled}
 use Rattle.contexts.proofs.Moving.{moved-on as hole-moves, moved-inside, ready, frame-done}
 use Rattle.contexts.proofs.Inside.{levels-low, outer-level}
 use Rattle.zipper.specs.declared.focus.Focus.{Focus}
-use Rattle.zipper.specs.declared.ascending.Place.{Place}
-use Rattle.zipper.specs.Focusing.{KindIs, LaidAt, HasFrame, CountsAfter, CanClose, Closes, CanMoveOn, MovesOn}
-use Rattle.zipper.specs.Ascending.{Held, Rests, CanTellNext, TellsNext, CanAscend, Ascended, moved-on, valued, rewritten, again, AscendsOne}
+use Rattle.zipper.specs.declared.ascending.Turn.the-variants.{Next, Value, Redex, Match}
+use Rattle.terms.specs.Measuring.{KindIs}
+use Rattle.zipper.specs.Focusing.{LaidAt, HasFrame, CountsAfter, CanClose, Closes}
+use Rattle.zipper.specs.Ascending.{Held, Rests, CanTellNext, TellsNext, Sought, valued, redex, matched, Turned, next}
 use Rattle.zipper.proofs.Places.{at-start, frame-read}
 use Rattle.zipper.proofs.Rows.{frame-in, counted}
+use Rattle.zipper.proofs.Moves.{hole-moved}
 use Rattle.zipper.proofs.Closing.{filled-low}
 
 -- `outer_level`: every kind but quote and splice stands at its children's level.
@@ -62,149 +65,179 @@ module _ (rs : List Record) (z : Focus) (k c after : ℕ) (kd : KindIs rs (z .to
 
 pub ruleset telling = (frame-in, next-down, next-told)
 
--- A focus that starts at 0 has no frame, and any other has.
-data Framed (types : Table) (rs : List Record) (p : Place) (whole : Term) : Context → Term → Type 0 where
-  outermost : (t : Term) → p .focus .s ≡ 0 → t ≡ whole → T (value whole) → Framed types rs p whole [] t
-  within : (F : Frame) (C : Context) (t : Term) → p .focus .s ≢ 0 → Rests types rs p (F ∷ C) t whole → Framed types rs p whole (F ∷ C) t
+-- Some focus of the same term is done.
+pub record RestsIn (types : Table) (rs : List Record) (z : Focus) (level : ℕ) (whole : Term) : Type 0 where
+  pub context : Context
+  pub focus : Term
+  pub rests : Rests types rs z level context focus whole
 
-framed : (types : Table) (rs : List Record) (p : Place) (C : Context) (t whole : Term) → Rests types rs p C t whole → Framed types rs p whole C t
-unfolding plug levelAt leftSize
-framed types rs p [] t whole h = outermost t (h .held .laid .around .start) (h .held .same) (rw (h .held .same) at (h .is-done))
-framed types rs p (F ∷ C) t whole h = within F C t (λ e. omega (arith, h .held .laid .around .start)) h
+-- And it has a frame.
+pub record Framed (types : Table) (rs : List Record) (z : Focus) (level : ℕ) (whole : Term) : Type 0 where
+  pub frame : Frame
+  pub context : Context
+  pub focus : Term
+  pub rests : Rests types rs z level (frame ∷ context) focus whole
+
+-- A focus that starts at 0 has no frame, and any other has.
+module _ {types : Table} {rs : List Record} {z : Focus} {level : ℕ} {whole : Term} where
+  pub framed : z .s ≢ 0 → RestsIn types rs z level whole → Framed types rs z level whole
+  unfolding leftSize
+  framed n q = go (q .context) (q .focus) (q .rests)
+    where
+      go : (C : Context) (t : Term) → Rests types rs z level C t whole → Framed types rs z level whole
+      go [] t h = absurd (n (h .held .laid .around .start))
+      go (F ∷ C) t h = record { frame = F; context = C; focus = t; rests = h }
+
+  pub outermost : z .s ≡ 0 → RestsIn types rs z level whole → Sought types rs whole (Value z)
+  unfolding plug levelAt leftSize Evaluation
+  outermost e q = go (q .context) (q .focus) (q .rests)
+    where
+      go : (C : Context) (t : Term) → Rests types rs z level C t whole → Sought types rs whole (Value z)
+      go [] t h = valued z (rw (h .held .same) at (h .is-done)) (record {
+        laid = rw (h .held .same) at (h .held .laid);
+        evaluation = tt;
+        at-level = refl;
+        same = refl;
+        typed = h .held .typed;
+      })
+      go (F ∷ C) t h = absurd (omega (arith, h .held .laid .around .start))
+
+-- A match steps its code at level 0, and no other child.
+match-level : (l : ℕ) (k : Ternary) → T (stepsChild l (ternary₃ k) 0) → l ≡ 0
+match-level zero k s = refl
+match-level (suc l) (match k) s = absurd (rw (eqb·suc-zero l) at s)
+
+match-later : (l : ℕ) (k : Ternary) (i : ℕ) → T (stepsChild l (ternary₃ k) (suc i)) → ⊥
+match-later l (match k) i s =
+    let few : stepping l (ternary₃ (match k)) ≤ 1 = picked (λ n. n ≤ 1) (eqb l 0) (λ _. omega arith) (λ _. omega arith) in
+    omega (arith, ltb→lt (suc i) (stepping l (ternary₃ (match k))) s)
+
+match-contracts : (k : Ternary) → T (contracts 0 (ternary₃ k))
+match-contracts (match k) = tt
+
+-- The search stops at a match that stays open.
+module _ {types : Table} {rs : List Record} {z : Focus} (l : ℕ) (C : Context) (t whole : Term) where
+  pub match-stops : (k : Ternary) (f : Fields) (s e : Term) → levelAt 0 C ≡ 0 → Ready (levelAt 0 C) (ternary k f t s e) → Held types rs z l (first₃ k f s e ∷ C) t whole
+      → Sought types rs whole (Match z)
+  unfolding levelAt
+  match-stops k f s e q y h = matched z k f s e C t (subst (λ x. Held types rs z x (first₃ k f s e ∷ C) t whole) (h .at-level ∙ q) h) q
+      (subst (λ x. Ready x (ternary k f t s e)) q y) (match-contracts k)
+
+  frame-stops : (F : Frame) → childCount (frameKind F) ≡ 3 → StepsHole (levelAt 0 C) F → Ready (levelAt 0 C) (fill F t) → Held types rs z l (F ∷ C) t whole
+      → Sought types rs whole (Match z)
+  frame-stops (only k f) i s y h = absurd (omega arith)
+  frame-stops (first k f u) i s y h = absurd (omega arith)
+  frame-stops (second k f u) i s y h = absurd (omega arith)
+  frame-stops (first₃ k f u v) i (s, _) y h = match-stops k f u v (match-level (levelAt 0 C) k s) y h
+  frame-stops (second₃ k f u v) i (s, _) y h = absurd (match-later (levelAt 0 C) k 0 s)
+  frame-stops (third₃ k f u v) i (s, _) y h = absurd (match-later (levelAt 0 C) k 1 s)
 
 -- What is known of a focus that is done and its frame.
-module _ {types : Table} {rs : List Record} {p : Place} (F : Frame) (C : Context) (t whole : Term) (h : Rests types rs p (F ∷ C) t whole) where
+module _ {types : Table} {rs : List Record} {z : Focus} {l : ℕ} {whole : Term} (f : Framed types rs z l whole) where
+  abbrev F : Frame
+  F = f .frame
+
+  abbrev C : Context
+  C = f .context
+
+  abbrev t : Term
+  t = f .focus
+
+  abbrev pub frame-held : HasFrame rs z
+  frame-held = record { frame = F; context = C; focus = t; laid = f .rests .held .laid }
+
   steps-hole : StepsHole (levelAt 0 C) F
   unfolding Evaluation
-  steps-hole = h .held .evaluation .0
+  steps-hole = f .rests .held .evaluation .0
 
   outside : Evaluation 0 C
   unfolding Evaluation
-  outside = h .held .evaluation .1
+  outside = f .rests .held .evaluation .1
 
   hole-done : T (done (holeLevel F (levelAt 0 C)) t)
   unfolding levelAt
-  hole-done = h .is-done
+  hole-done = f .rests .is-done
 
-  outer-is : outerLevel (frameKind F) (p .level) ≡ levelAt 0 C
+  outer-is : outerLevel (frameKind F) l ≡ levelAt 0 C
   unfolding levelAt
-  outer-is = ap (outerLevel (frameKind F)) (h .held .at-level) ∙ outer-level (levelAt 0 C) F steps-hole
+  outer-is = ap (outerLevel (frameKind F)) (f .rests .held .at-level) ∙ outer-level (levelAt 0 C) F steps-hole
 
   same-filled : plug C (fill F t) ≡ whole
   unfolding plug
-  same-filled = h .held .same
+  same-filled = f .rests .held .same
 
   low-bound : 2 * freeBound (fill F t) + 1 < 65536
-  low-bound = filled-low types rs (p .focus) F C t (h .held .laid) (rw (h .held .same) (h .held .typed))
+  low-bound = filled-low types rs z F C t (f .rests .held .laid) (rw (f .rests .held .same) (f .rests .held .typed))
 
--- `ascend_one`
-module _ (rs : List Record) (p : Place) where
-  record Inside : Type 0 where
-    types : Table
-    frame : Frame
-    context : Context
-    focus : Term
-    whole : Term
-    rests : Rests types rs p (frame ∷ context) focus whole
+  pub frame-closes : CanClose rs z
+  frame-closes = record { holds = frame-held; low = low-bound }
 
-  inside : p .focus .s ≢ 0 → CanAscend rs p → Inside
-  inside n h = told (h .context) (h .focus) (framed (h .types) rs p (h .context) (h .focus) (h .whole) (h .rests))
-    where
-      told : (C : Context) (t : Term) → Framed (h .types) rs p (h .whole) C t → Inside
-      told C t (outermost _ e _ _) = absurd (n e)
-      told C t (within F D _ _ r) = record { types = h .types; frame = F; context = D; focus = t; whole = h .whole; rests = r }
+  module _ (k lv : ℕ) (kd : KindIs rs (z .top) k) (v : lv ≡ outerLevel (kindOf k) l) where
+    kind-is : kindOf k ≡ frameKind F
+    kind-is = frame-kind rs z k kd F C t (f .rests .held .laid)
 
-  abbrev holding : Inside → HasFrame rs (p .focus)
-  holding i = record { frame = i .frame; context = i .context; focus = i .focus; laid = i .rests .held .laid }
+    level-is : lv ≡ levelAt 0 C
+    level-is = v ∙ ap (λ x. outerLevel x l) kind-is ∙ outer-is
 
-  pub ascend-in : p .focus .s ≢ 0 → CanAscend rs p → p .focus .top < length rs
-  ascend-in n h = frame-in rs (p .focus) (holding (inside n h))
+    pub frame-tells : CanTellNext rs z lv
+    frame-tells = record { holds = frame-held; low = omega (arith, level-is, levels-low 0 C (omega arith)) }
 
-  pub ascend-value : p .focus .s ≡ 0 → AscendsOne rs rs p (record { focus = p .focus; level = p .level; status = 1 })
-  ascend-value e = record { does = λ types C t whole h. told types C t whole h (framed types rs p C t whole h) }
-    where
-      told : (types : Table) (C : Context) (t whole : Term) → Rests types rs p C t whole → Framed types rs p whole C t
-          → Ascended types rs (p .focus .s) (record { focus = p .focus; level = p .level; status = 1 }) whole 1
-      told types C t whole h (outermost _ _ q v) = valued v (rw q at (h .held))
-      told types C t whole h (within F D _ n _) = absurd (n e)
+    module _ (b : Bool) (tn : TellsNext rs z lv b) where
+      next-steps : stepsChild (levelAt 0 C) (frameKind F) (suc (holeNumber F)) ≡ b
+      next-steps = sym (tn .is F C t (f .rests .held .laid) ∙ ap (λ x. stepsChild x (frameKind F) (suc (holeNumber F))) level-is)
 
-  module _ (n : p .focus .s ≢ 0) (k lv : ℕ) (kd : KindIs rs (p .focus .top) k) (v : lv ≡ outerLevel (kindOf k) (p .level)) where
-    level-is : (types : Table) (F : Frame) (C : Context) (t whole : Term) → Rests types rs p (F ∷ C) t whole → lv ≡ levelAt 0 C
-    level-is types F C t whole h = v ∙ ap (λ x. outerLevel x (p .level)) (frame-kind rs (p .focus) k kd F C t (h .held .laid)) ∙ outer-is F C t whole h
+      -- The hole moves on to the next child, which is the first tree after the gap.
+      pub hole-goes-on : b ≡ true → (from : ℕ) → from ≤ z .r → Turned types rs from whole (Next (record { l = z .l; r = z .r; top = z .top; level = l }))
+      hole-goes-on e from o =
+          let on = hole-moves (levelAt 0 C) F t steps-hole hole-done (rw (next-steps ∙ e) tt) in
+          let (same, ev, lev) = moved-inside 0 F C t on (f .rests .held .evaluation) in
+          next _ (on .frame ∷ C) (on .child) (record {
+            laid = hole-moved (levelAt 0 C) F t on rs C (z .s) (z .l) (z .r) (z .top) (f .rests .held .laid);
+            evaluation = ev;
+            at-level = f .rests .held .at-level ∙ lev;
+            same = sym same ∙ f .rests .held .same;
+            typed = f .rests .held .typed;
+          }) o
 
-    pub ascend-low : CanAscend rs p → lv ≤ 1
-    ascend-low h = let i = inside n h in omega (arith, level-is (i .types) (i .frame) (i .context) (i .focus) (i .whole) (i .rests), levels-low 0 (i .context) (omega arith))
+      module _ (e : b ≡ false) where
+        now-ready : Ready (levelAt 0 C) (fill F t)
+        now-ready = ready (levelAt 0 C) F t steps-hole hole-done (rw (next-steps ∙ e) tt)
 
-    pub ascend-tells : CanAscend rs p → CanTellNext rs (p .focus) lv
-    ascend-tells h = record { holds = holding (inside n h); low = ascend-low h }
+        -- A match stays open.
+        pub match-stays : (c : ℕ) → c ≡ childCount (kindOf k) → c ≡ 3 → Sought types rs whole (Match z)
+        match-stays c o m = frame-stops l C t whole F (sym (ap childCount kind-is) ∙ sym o ∙ m) steps-hole now-ready (f .rests .held)
 
-    module _ (b : Bool) (tn : TellsNext rs (p .focus) lv b) where
-      next-steps : (types : Table) (F : Frame) (C : Context) (t whole : Term) → Rests types rs p (F ∷ C) t whole → stepsChild (levelAt 0 C) (frameKind F) (suc (holeNumber F)) ≡ b
-      next-steps types F C t whole h = sym (tn .is F C t (h .held .laid) ∙ ap (λ l. stepsChild l (frameKind F) (suc (holeNumber F))) (level-is types F C t whole h))
+        -- Any other frame is closed.
+        module _ (rs′ : List Record) (r : Focus) (cl : Closes rs rs′ z r) where
+          now-held : Held types rs′ r lv C (fill F t) whole
+          now-held = record {
+            laid = cl .does F C t (f .rests .held .laid) low-bound;
+            evaluation = outside;
+            at-level = level-is;
+            same = same-filled;
+            typed = f .rests .held .typed;
+          }
 
-      -- The hole moves on.
-      module _ (e : b ≡ true) where
-        on : (types : Table) (F : Frame) (C : Context) (t whole : Term) → Rests types rs p (F ∷ C) t whole → MovedOn (levelAt 0 C) F t
-        on types F C t whole h = hole-moves (levelAt 0 C) F t (steps-hole F C t whole h) (hole-done F C t whole h) (rw (next-steps types F C t whole h ∙ e) tt)
+          pub closed-outward : r .s < z .s
+          closed-outward = omega (arith, cl .outward, at-start rs F C (z .s) (z .r) (z .top) (f .rests .held .laid .around))
 
-        pub ascend-can : CanAscend rs p → CanMoveOn rs (p .focus)
-        ascend-can h = let i = inside n h in
-            record { level = levelAt 0 (i .context); holds = holding i; onward = on (i .types) (i .frame) (i .context) (i .focus) (i .whole) (i .rests) }
+          pub closed-onward : z .r ≤ r .r
+          unfolding rightSize
+          closed-onward = omega (arith, f .rests .held .laid .around .whole, now-held .laid .around .whole)
 
-        pub ascend-moves : (rs′ : List Record) (z : Focus) → MovesOn rs rs′ (p .focus) z → AscendsOne rs rs′ p (record { focus = z; level = p .level; status = 0 })
-        ascend-moves rs′ z m = record { does = λ types C t whole h. told types C t whole (framed types rs p C t whole h) }
-          where
-            told : (types : Table) (C : Context) (t whole : Term) → Framed types rs p whole C t → Ascended types rs′ (p .focus .s) (record { focus = z; level = p .level; status = 0 }) whole 0
-            told types C t whole (outermost _ q _ _) = absurd (n q)
-            told types C t whole (within F D _ _ h) =
-                let o = on types F D t whole h in
-                let (same, ev, lev) = moved-inside 0 F D t o (h .held .evaluation) in
-                moved-on (o .frame ∷ D) (o .child) (record {
-                  laid = m .does (levelAt 0 D) F D t o (h .held .laid);
-                  evaluation = ev;
-                  at-level = h .held .at-level ∙ lev;
-                  same = sym same ∙ h .held .same;
-                  typed = h .held .typed;
-                })
+          module _ (y : Bool) (o : y ≡ contracts lv (kindOf k)) where
+            contracts-is : contracts (levelAt 0 C) (frameKind F) ≡ y
+            contracts-is = sym (o ∙ ap₂ contracts level-is kind-is)
 
-      -- The frame is closed.
-      module _ (e : b ≡ false) (rs′ : List Record) (z : Focus) (cl : Closes rs rs′ (p .focus) z) where
-        now-held : (types : Table) (F : Frame) (C : Context) (t whole : Term) → Rests types rs p (F ∷ C) t whole → Held types rs′ z lv C (fill F t) whole
-        now-held types F C t whole h = record {
-          laid = cl .does F C t (h .held .laid) (low-bound F C t whole h);
-          evaluation = outside F C t whole h;
-          at-level = level-is types F C t whole h;
-          same = same-filled F C t whole h;
-          typed = h .held .typed;
-        }
+            pub closed-redex : y ≡ true → (c : ℕ) → c ≡ childCount (kindOf k) → c ≢ 3 → Sought types rs′ whole (Redex r lv)
+            closed-redex q c i n =
+                let (root, _) = root-filled F t in
+                redex r lv C (fill F t) now-held now-ready (rw (root, contracts-is ∙ q) tt)
+                (rw root (omega (arith, i, ap childCount kind-is, each-kind (λ x. childCount x ≤ 3) (omega arith) (frameKind F))))
 
-        now-ready : (types : Table) (F : Frame) (C : Context) (t whole : Term) → Rests types rs p (F ∷ C) t whole → Ready (levelAt 0 C) (fill F t)
-        now-ready types F C t whole h = ready (levelAt 0 C) F t (steps-hole F C t whole h) (hole-done F C t whole h) (rw (next-steps types F C t whole h ∙ e) tt)
-
-        module _ (y : Bool) (o : y ≡ contracts lv (kindOf k)) where
-          contracts-is : (types : Table) (F : Frame) (C : Context) (t whole : Term) → Rests types rs p (F ∷ C) t whole → contracts (levelAt 0 C) (frameKind F) ≡ y
-          contracts-is types F C t whole h =
-              sym (o ∙ ap (λ l. contracts l (kindOf k)) (level-is types F C t whole h) ∙ ap (contracts (levelAt 0 C)) (frame-kind rs (p .focus) k kd F C t (h .held .laid)))
-
-          pub ascend-rewritten : y ≡ true → AscendsOne rs rs′ p (record { focus = z; level = lv; status = 2 })
-          ascend-rewritten q = record { does = λ types C t whole h. told types C t whole (framed types rs p C t whole h) }
-            where
-              told : (types : Table) (C : Context) (t whole : Term) → Framed types rs p whole C t → Ascended types rs′ (p .focus .s) (record { focus = z; level = lv; status = 2 }) whole 2
-              told types C t whole (outermost _ g _ _) = absurd (n g)
-              told types C t whole (within F D _ _ h) = rewritten D (fill F t) (now-held types F D t whole h) (now-ready types F D t whole h)
-                  (rw (root-filled F t .0, contracts-is types F D t whole h ∙ q) tt)
-
-          pub ascend-again : y ≡ false → AscendsOne rs rs′ p (record { focus = z; level = lv; status = 3 })
-          ascend-again q = record { does = λ types C t whole h. told types C t whole (framed types rs p C t whole h) }
-            where
-              told : (types : Table) (C : Context) (t whole : Term) → Framed types rs p whole C t → Ascended types rs′ (p .focus .s) (record { focus = z; level = lv; status = 3 }) whole 3
-              told types C t whole (outermost _ g _ _) = absurd (n g)
-              told types C t whole (within F D _ _ h) = again D (fill F t) (record {
-                held = now-held types F D t whole h;
-                is-done = frame-done (levelAt 0 D) F t (steps-hole F D t whole h) (now-ready types F D t whole h) (rw (contracts-is types F D t whole h ∙ q) tt);
-              }) (omega (arith, cl .outward, at-start rs F D (p .focus .s) (p .focus .r) (p .focus .top) (h .held .laid .around)))
-
-  pub ascend-closes : p .focus .s ≢ 0 → CanAscend rs p → CanClose rs (p .focus)
-  ascend-closes n h = let i = inside n h in record { holds = holding i; low = low-bound (i .frame) (i .context) (i .focus) (i .whole) (i .rests) }
-
-pub ruleset turning = (ascend-in, ascend-value, ascend-low, ascend-tells, ascend-can, ascend-moves, ascend-closes, ascend-rewritten, ascend-again)
+            pub closed-done : y ≡ false → RestsIn types rs′ r lv whole
+            closed-done q = record {
+              context = C;
+              focus = fill F t;
+              rests = record { held = now-held; is-done = frame-done (levelAt 0 C) F t steps-hole now-ready (rw (contracts-is ∙ q) tt) };
+            }

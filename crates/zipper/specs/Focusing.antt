@@ -1,5 +1,5 @@
 -- The moves of a focus by value: what they need, and what the list of records holds after them.
-use Prim.Native.Nat.{ℕ, _+_, _*_, _≤_, _<_}
+use Prim.Native.Nat.{ℕ, _+_, _*_, _<_}
 use mathlib.Core.List.{List, [], _∷_}
 use mathlib.Core.Path.{_≡_}
 use lib.ListN.{length, getD}
@@ -7,18 +7,15 @@ use Rattle.rules.specs.Terms.{Term, size}
 use Rattle.rules.specs.FreeBounds.{freeBound}
 use Rattle.rules.specs.Types.{Table}
 use Rattle.rules.specs.Typing.{Typed}
-use Rattle.rules.specs.Format.{Record, noRecord, mostRecords}
-use Rattle.terms.specs.Children.{sizes}
-use Rattle.contexts.specs.Contexts.{Frame, fill, childrenAfter, holeNumber, Context, plug}
-use Rattle.contexts.specs.Moving.{MovedOn}
+use Rattle.rules.specs.Format.{Record, noRecord}
+use Rattle.terms.specs.Children.{sizes, preorders}
+use Rattle.contexts.specs.Contexts.{Frame, fill, childrenBefore, childrenAfter, holeNumber, holeLevel, Context, plug}
 use Rattle.zipper.specs.declared.focus.Focus.{Focus}
-use Rattle.zipper.specs.Measures.{markedPreorders, There, MarkedAt}
-use Rattle.zipper.specs.Layout.{FocusBefore}
+use Rattle.zipper.specs.declared.focus.Ahead.{Ahead}
+use Rattle.terms.specs.Preorder.{There}
+use Rattle.zipper.specs.Layout.{FocusBefore, FocusAfter}
 
--- k is the kind of the record at i, and p is the place that a frame's record there holds.
-pub record KindIs (rs : List Record) (i k : ℕ) : Type 0 where
-  pub is : k ≡ getD rs i noRecord .kind
-
+-- p is the place that a frame's record at i holds.
 pub record LinkIs (rs : List Record) (i p : ℕ) : Type 0 where
   pub is : p ≡ getD rs i noRecord .first
 
@@ -26,14 +23,18 @@ pub record LinkIs (rs : List Record) (i p : ℕ) : Type 0 where
 pub record HasTrees (rs : List Record) (i n : ℕ) : Type 0 where
   pub trees : List Term
   pub count : length trees ≡ n
-  pub there : There rs i (markedPreorders trees)
+  pub there : There rs i (preorders trees)
 
 pub record SkipsAll (rs : List Record) (i n r : ℕ) : Type 0 where
-  pub is : (ts : List Term) → length ts ≡ n → There rs i (markedPreorders ts) → r ≡ i + sizes ts
+  pub is : (ts : List Term) → length ts ≡ n → There rs i (preorders ts) → r ≡ i + sizes ts
 
 -- The term is laid out around the focus z: t, in the context C.
 abbrev pub LaidAt : List Record → Focus → Context → Term → Type 0
 LaidAt rs z C t = FocusBefore rs C t (z .s) (z .l) (z .r) (z .top)
+
+-- The same where the focus is after the gap.
+abbrev pub AheadAt : List Record → Ahead → Context → Term → Type 0
+AheadAt rs a C t = FocusAfter rs C t (a .l) (a .r) (a .r + size t) (a .top)
 
 -- There is a frame; n is the number of its children after the hole.
 pub record HasFrame (rs : List Record) (z : Focus) : Type 0 where
@@ -65,38 +66,26 @@ pub record CanCloseAll (rs : List Record) (z : Focus) : Type 0 where
 pub record ClosesAll (rs rs′ : List Record) (z r : Focus) : Type 0 where
   pub does : (types : Table) (C : Context) (t : Term) → LaidAt rs z C t → Typed types [] 0 (plug C t) → LaidAt rs′ r [] (plug C t)
 
--- The root of the focus becomes a frame, whose hole is child j.
-pub record CanOpen (rs : List Record) (z : Focus) (j : ℕ) : Type 0 where
+-- A focus after the gap is brought over it.
+pub record HasAhead (rs : List Record) (a : Ahead) : Type 0 where
+  pub context : Context
+  pub focus : Term
+  pub laid : AheadAt rs a context focus
+
+pub record Brings (rs rs′ : List Record) (a : Ahead) (r : Focus) : Type 0 where
+  pub does : (C : Context) (t : Term) → AheadAt rs a C t → LaidAt rs′ r C t
+  pub from : r .s ≡ a .l
+  pub onward : a .r < r .r
+
+-- The root of such a focus becomes a frame, whose hole is child j. What is in the hole stays at its place.
+pub record CanOpen (rs : List Record) (a : Ahead) (j : ℕ) : Type 0 where
   pub frame : Frame
   pub context : Context
   pub inner : Term
-  pub laid : LaidAt rs z context (fill frame inner)
+  pub laid : AheadAt rs a context (fill frame inner)
   pub hole : holeNumber frame ≡ j
 
-pub record Opens (rs rs′ : List Record) (z : Focus) (j : ℕ) (r : Focus) : Type 0 where
-  pub does : (F : Frame) (C : Context) (t : Term) → LaidAt rs z C (fill F t) → holeNumber F ≡ j → LaidAt rs′ r (F ∷ C) t
-
--- The hole moves on to the next child, where the frame's record steps that at level m.
-pub record CanMoveOn (rs : List Record) (z : Focus) : Type 0 where
-  pub level : ℕ
-  pub holds : HasFrame rs z
-  pub onward : MovedOn level (holds .frame) (holds .focus)
-
-pub record MovesOn (rs rs′ : List Record) (z r : Focus) : Type 0 where
-  pub does : (m : ℕ) (F : Frame) (C : Context) (t : Term) (on : MovedOn m F t) → LaidAt rs z (F ∷ C) t → LaidAt rs′ r (on .frame ∷ C) (on .child)
-
--- u stands in the gap at m and can take the place of the focus: the next term has room, and the two places have no record in common.
-pub record MadeAt (rs : List Record) (z : Focus) (m : ℕ) (u : Term) : Type 0 where
-  pub there : MarkedAt rs m u
-  pub clear : z .s + size u ≤ m
-  pub room : z .s + size u + mostRecords ≤ z .r
-
-pub record CanRefocus (rs : List Record) (z : Focus) (m : ℕ) : Type 0 where
-  pub context : Context
-  pub focus : Term
-  pub laid : LaidAt rs z context focus
-  pub tree : Term
-  pub made : MadeAt rs z m tree
-
-pub record Refocuses (rs rs′ : List Record) (z : Focus) (m : ℕ) (r : Focus) : Type 0 where
-  pub does : (C : Context) (t u : Term) → LaidAt rs z C t → MadeAt rs z m u → LaidAt rs′ r C u
+pub record Opens (rs rs′ : List Record) (a : Ahead) (j : ℕ) (r : Ahead) : Type 0 where
+  pub does : (F : Frame) (C : Context) (t : Term) → AheadAt rs a C (fill F t) → holeNumber F ≡ j → AheadAt rs′ r (F ∷ C) t
+  pub level : (F : Frame) (C : Context) (t : Term) → AheadAt rs a C (fill F t) → r .level ≡ holeLevel F (a .level)
+  pub place : (F : Frame) (C : Context) (t : Term) → AheadAt rs a C (fill F t) → holeNumber F ≡ j → r .r ≡ a .r + (1 + sizes (childrenBefore F))

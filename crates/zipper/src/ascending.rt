@@ -1,9 +1,13 @@
-// From a focus that is done to the next: a further child of a frame, a record that is rewritten, or the whole term, where that is a value.
+// From a focus that is done to the next: a further child of a frame, a record that is rewritten, or the whole term, where that is a value. And from
+// a focus to the record inside it that is rewritten.
+use crate::descending::descend;
+use crate::focus::Ahead;
 use crate::focus::Focus;
+use crate::focus::bring;
 use crate::focus::children_after;
 use crate::focus::close;
-use crate::focus::kind_at;
-use crate::focus::next_child;
+use crate::focus::open_ahead;
+use terms::kind_at;
 ghost use mathlib.Core.Path.{_≡_};
 ghost use Prim.Native.Nat.{_≤_};
 ghost use Rattle.rules.specs.Kinds.{kindOf};
@@ -11,13 +15,15 @@ ghost use Rattle.rules.specs.Contractions.{contracts};
 ghost use Rattle.rules.specs.Steps.{stepping};
 ghost use Rattle.contexts.specs.Contexts.{outerLevel};
 ghost use Rattle.records.specs.View.{recordsIn};
-ghost use Rattle.zipper.specs.Ascending.{CanTellNext, TellsNext, CanAscend, AscendsOne, Ascends};
+ghost use Rattle.zipper.specs.Ascending.{CanTellNext, TellsNext, CanAscend, Ascends, CanReach, Reaches};
 
-// A focus at its level. Status 0: it is to be searched. 1: the term is a value. 2: its root is rewritten. 3: it is done.
-pub struct Place {
-    pub focus: Focus,
-    pub level: u16,
-    pub status: u16,
+// Where a focus that is done leads: a next focus, which is to be searched; or "the term is a value"; or a record that is rewritten, at its
+// level. A match that is rewritten stays open: its code is the focus.
+pub enum Turn {
+    Next(Ahead),
+    Value(Focus),
+    Redex(Focus, u16),
+    Match(Focus),
 }
 
 // The level of a record of this kind that steps a child at `level`.
@@ -31,20 +37,7 @@ fn outer_level(kind: u16, level: u16) -> u16
     }
 }
 
-// How many of its children a record of this kind steps at level 1.
-fn stepping_at_one(kind: u16) -> u16
-    ensures { λ r. ⌜ r ≡ stepping 1 (kindOf kind) ⌝ }
-{
-    match kind {
-        4 => 2,
-        3 => 1,
-        5 => 1,
-        8 => 1,
-        _ => 0,
-    }
-}
-
-// The same at this level.
+// How many of its children a record of this kind steps at this level.
 fn stepping_at(kind: u16, level: u16) -> u16
     requires { ⌜ level ≤ 1 ⌝ }
     ensures { λ r. ⌜ r ≡ stepping level (kindOf kind) ⌝ }
@@ -52,7 +45,7 @@ fn stepping_at(kind: u16, level: u16) -> u16
     if level == 0 {
         rules::stepping_at_zero(kind)
     } else {
-        stepping_at_one(kind)
+        rules::stepping_at_one(kind)
     }
 }
 
@@ -79,48 +72,49 @@ fn steps_next(w: &[u8], z: Focus, level: u16) -> bool
     next < stepping_at(kind, level)
 }
 
-// One turn from a focus that is done: to the next child that its frame's record steps, or to the frame's tree.
-fn ascend_one(w: &mut [u8], p: Place) -> Place
-    requires { ⌜ CanAscend (recordsIn (now w)) p ⌝ }
-    ensures { λ r. ⌜ AscendsOne (recordsIn (now (w .entry))) (recordsIn (now (w .exit))) p r ⌝ }
+// From a focus that is done, at its level: frames that are done are closed, until one steps its next child, which is the first tree after the gap,
+// or is rewritten. Only matches have three children, and a match whose code is done is rewritten.
+pub fn ascend(w: &mut [u8], z: Focus, level: u16) -> Turn
+    requires { ⌜ CanAscend (recordsIn (now w)) z level ⌝ }
+    ensures { λ r. ⌜ Ascends (recordsIn (now (w .entry))) (recordsIn (now (w .exit))) z level r ⌝ }
 {
-    let z = p.focus;
-    if z.s == 0 {
-        return Place {
-            focus: z,
-            level: p.level,
-            status: 1,
-        };
-    }
-    let kind = kind_at(w, z.top);
-    let level = outer_level(kind, p.level);
-    if steps_next(w, z, level) {
-        let focus = next_child(w, z);
-        return Place {
-            focus,
-            level: p.level,
-            status: 0,
-        };
-    }
-    let focus = close(w, z);
-    let status: u16 = if contracts_at(kind, level) { 2 } else { 3 };
-    Place {
-        focus,
-        level,
-        status,
+    let mut at = z;
+    let mut inner = level;
+    loop {
+        if at.s == 0 {
+            return Turn::Value(at);
+        }
+        let kind = kind_at(w, at.top);
+        let outer = outer_level(kind, inner);
+        if steps_next(w, at, outer) {
+            return Turn::Next(Ahead {
+                l: at.l,
+                r: at.r,
+                top: at.top,
+                level: inner,
+            });
+        }
+        if rules::children(kind) == 3 {
+            return Turn::Match(at);
+        }
+        at = close(w, at);
+        inner = outer;
+        if contracts_at(kind, outer) {
+            return Turn::Redex(at, outer);
+        }
     }
 }
 
-// All turns, until the focus isn't done.
-pub fn ascend(w: &mut [u8], p: Place) -> Place
-    requires { ⌜ CanAscend (recordsIn (now w)) p ⌝ }
-    ensures { λ r. ⌜ Ascends (recordsIn (now (w .entry))) (recordsIn (now (w .exit))) p r ⌝ }
+// From a focus to the record at `p` inside it, which is rewritten: a match is opened, and any other is brought over the gap whole.
+pub fn reach(w: &mut [u8], a: Ahead, p: usize) -> Turn
+    requires { ⌜ CanReach (recordsIn (now w)) a p ⌝ }
+    ensures { λ r. ⌜ Reaches (recordsIn (now (w .entry))) (recordsIn (now (w .exit))) a p r ⌝ }
 {
-    let mut at = p;
-    loop {
-        at = ascend_one(w, at);
-        if at.status != 3 {
-            return at;
-        }
+    let redex = descend(w, a, p);
+    let kind = kind_at(w, p);
+    if rules::children(kind) == 3 {
+        let code = open_ahead(w, redex, 0);
+        return Turn::Match(bring(w, code));
     }
+    Turn::Redex(bring(w, redex), redex.level)
 }

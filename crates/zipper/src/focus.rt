@@ -1,13 +1,15 @@
 // The focus of a term by value, and its moves. Each moves one block of records over the gap, which no block is long enough to fill.
-use crate::measuring::mark_root;
-use crate::measuring::relink;
-use crate::measuring::skip;
+// A focus that is to be searched is the first tree after the gap; one that is done or is rewritten is the last before it.
+use terms::kind_at;
+use terms::mark_root;
+use terms::relink;
+use terms::skip;
 ghost use Prim.Native.Nat.{_<_};
 ghost use lib.ListN.{length};
 ghost use Rattle.records.specs.View.{recordsIn};
-ghost use Rattle.zipper.specs.Focusing.{KindIs, LinkIs, HasTrees, SkipsAll, HasFrame, CountsAfter, CanClose, Closes, CanCloseAll, ClosesAll, CanOpen, Opens, CanMoveOn, MovesOn, CanRefocus, Refocuses};
+ghost use Rattle.zipper.specs.Focusing.{LinkIs, HasTrees, SkipsAll, HasFrame, CountsAfter, CanClose, Closes, CanCloseAll, ClosesAll, HasAhead, Brings, CanOpen, Opens};
 
-// The focus is the records from `s` to `l`, and the right side stands from `r` on. The innermost frame's record is at `top`.
+// A focus before the gap: the records from `s` to `l`. The right side stands from `r` on, and the innermost frame's record is at `top`.
 pub struct Focus {
     pub s: usize,
     pub l: usize,
@@ -15,17 +17,16 @@ pub struct Focus {
     pub top: usize,
 }
 
-// The kind of the record at `i`.
-pub fn kind_at(w: &[u8], i: usize) -> u16
-    requires { ⌜ i < length (recordsIn (now w)) ⌝ }
-    ensures { λ r. ⌜ KindIs (recordsIn (now (w .entry))) i r ⌝ }
-{
-    let r = records::get(w, i);
-    r.kind
+// A focus after the gap, at its level: the left side ends at `l`, and the right side begins with the focus at `r`.
+pub struct Ahead {
+    pub l: usize,
+    pub r: usize,
+    pub top: usize,
+    pub level: u16,
 }
 
 // The place of the frame around it, from the record of a frame at `i`.
-fn link_at(w: &[u8], i: usize) -> usize
+pub fn link_at(w: &[u8], i: usize) -> usize
     requires { ⌜ i < length (recordsIn (now w)) ⌝ }
     ensures { λ r. ⌜ LinkIs (recordsIn (now (w .entry))) i r ⌝ }
 {
@@ -34,7 +35,7 @@ fn link_at(w: &[u8], i: usize) -> usize
 }
 
 // The place after `n` trees that stand one after another from `i` on.
-fn skip_all(w: &[u8], i: usize, n: u16) -> usize
+pub fn skip_all(w: &[u8], i: usize, n: u16) -> usize
     requires { ⌜ HasTrees (recordsIn (now w)) i n ⌝ }
     ensures { λ r. ⌜ SkipsAll (recordsIn (now (w .entry))) i n r ⌝ }
 {
@@ -94,34 +95,13 @@ pub fn close_all(w: &mut [u8], z: Focus) -> Focus
     at
 }
 
-// Makes a frame of the focus's root, with its child `j`, counted from 0, in the hole.
-pub fn open_child(w: &mut [u8], z: Focus, j: u16) -> Focus
-    requires { ⌜ CanOpen (recordsIn (now w)) z j ⌝ }
-    ensures { λ r. ⌜ Opens (recordsIn (now (w .entry))) (recordsIn (now (w .exit))) z j r ⌝ }
+// Brings the focus over the gap: it is the last tree on the left then.
+pub fn bring(w: &mut [u8], a: Ahead) -> Focus
+    requires { ⌜ HasAhead (recordsIn (now w)) a ⌝ }
+    ensures { λ r. ⌜ Brings (recordsIn (now (w .entry))) (recordsIn (now (w .exit))) a r ⌝ }
 {
-    let s = z.s;
-    let start = skip_all(w, s + 1, j);
-    let end = skip(w, start);
-    let n = z.l - end;
-    let r = z.r - n;
-    terms::copy_flat(w, end, r, n);
-    let link = z.top as u16;
-    relink(w, s, link, 0);
-    Focus {
-        s: start,
-        l: end,
-        r,
-        top: s,
-    }
-}
-
-// Moves the hole of the innermost frame on to the next child, which is brought over the gap.
-pub fn next_child(w: &mut [u8], z: Focus) -> Focus
-    requires { ⌜ CanMoveOn (recordsIn (now w)) z ⌝ }
-    ensures { λ r. ⌜ MovesOn (recordsIn (now (w .entry))) (recordsIn (now (w .exit))) z r ⌝ }
-{
-    let l = z.l;
-    let r = z.r;
+    let l = a.l;
+    let r = a.r;
     let end = skip(w, r);
     let n = end - r;
     terms::copy_flat(w, r, l, n);
@@ -129,22 +109,28 @@ pub fn next_child(w: &mut [u8], z: Focus) -> Focus
         s: l,
         l: l + n,
         r: end,
-        top: z.top,
+        top: a.top,
     }
 }
 
-// Puts the tree that was made at `m`, in the gap, in place of the focus.
-pub fn refocus(w: &mut [u8], z: Focus, m: usize) -> Focus
-    requires { ⌜ CanRefocus (recordsIn (now w)) z m ⌝ }
-    ensures { λ r. ⌜ Refocuses (recordsIn (now (w .entry))) (recordsIn (now (w .exit))) z m r ⌝ }
+// Makes a frame of the focus's root, with its child `j`, counted from 0, in the hole: the root and the children before the hole go over the gap.
+pub fn open_ahead(w: &mut [u8], a: Ahead, j: u16) -> Ahead
+    requires { ⌜ CanOpen (recordsIn (now w)) a j ⌝ }
+    ensures { λ r. ⌜ Opens (recordsIn (now (w .entry))) (recordsIn (now (w .exit))) a j r ⌝ }
 {
-    let s = z.s;
-    let n = skip(w, m) - m;
-    terms::copy_flat(w, m, s, n);
-    Focus {
-        s,
-        l: s + n,
-        r: z.r,
-        top: z.top,
+    let l = a.l;
+    let r = a.r;
+    let kind = kind_at(w, r);
+    let level = rules::first_level(kind, a.level);
+    let start = skip_all(w, r + 1, j);
+    let n = start - r;
+    terms::copy_flat(w, r, l, n);
+    let link = a.top as u16;
+    relink(w, l, link, 0);
+    Ahead {
+        l: l + n,
+        r: start,
+        top: l,
+        level,
     }
 }

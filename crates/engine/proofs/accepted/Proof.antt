@@ -1,7 +1,7 @@
--- `engine::accepted` meets its contract: start, steps, ending, writing. `d` is the place after the steps. Assumes nothing.
-use Rattle.engine.proofs.Accepting.{accepting, accept-holds, accept-writes, accept-fits, accept-done}
-use borrow.Author.Needs.{needs}
+-- `engine::accepted` meets its contract. Assumes nothing.
+use Rattle.engine.proofs.Accepting.{accepting, accept-writes}
 use Rattle.engine.proofs.Checks.{passing-types, passing-count, passing-end}
+use borrow.Author.Needs.{needs}
 use Rattle.engine.proofs.accepted.Statement.{statement}
 use Rattle.engine.proofs.accepted.Tie as tie
 
@@ -22,14 +22,14 @@ accepted-spec =
     (λ c. search (accepting, passing-types, passing-count, passing-end, needs))  -- part-run-steps-start
     (λ c. search (accepting, passing-types, passing-count, passing-end, needs))  -- part-run-steps-end
     (λ c κs. search (accepting, passing-types, passing-count, passing-end, needs))  -- run-steps-requires
-    (λ c κs. let d = c .before .before .before in accept-holds _ _ _ (d .before .before .before .before .before .before .before .before .before .before .before .before .before .before .pre) _ _ (d .before .before .before .before .before .before .before .before .before .get16 .ensures) (d .before .before .before .before .before .before .before .before .get162 .ensures) _ _ (d .before .before .before .before .before .start .ensures) _ _ _ (d .run-steps .ensures))  -- ending-of-requires
+    (λ c κs. search (accepting, passing-types, passing-count, passing-end, needs))  -- ending-of-requires
     (λ c. search (accepting, passing-types, passing-count, passing-end, needs))  -- sub-write-out
     (λ c. search (accepting, passing-types, passing-count, passing-end, needs))  -- part-write-out-start
     (λ c. search (accepting, passing-types, passing-count, passing-end, needs))  -- part-write-out-end
-    (λ c κs. let d = c .before .before .before .before .before .before .before in accept-writes _ _ _ (d .before .before .before .before .before .before .before .before .before .before .before .before .before .before .pre) _ _ (d .before .before .before .before .before .before .before .before .before .get16 .ensures) (d .before .before .before .before .before .before .before .before .get162 .ensures) _ _ (d .before .before .before .before .before .start .ensures) _ _ _ (d .run-steps .ensures))  -- write-out-requires
-    (λ c. search (accepting, passing-types, passing-count, passing-end, needs))  -- cast-t34
-    (λ c. let d = c .before .before .before .before .before .before .before .before .before .before in accept-fits _ _ _ (d .before .before .before .before .before .before .before .before .before .before .before .before .before .before .pre) _ _ (d .before .before .before .before .before .before .before .before .before .get16 .ensures) (d .before .before .before .before .before .before .before .before .get162 .ensures) _ _ (d .before .before .before .before .before .start .ensures) _ _ _ (d .run-steps .ensures) _ _ (c .before .before .write-out .ensures))  -- cast-t35
+    (λ c κs. let d = c .before .before .before .before .before .before in accept-writes _ _ _ (d .before .before .before .before .before .before .before .before .before .before .before .before .before .before .pre) _ _ (d .before .before .before .before .before .before .before .before .before .get16 .ensures) (d .before .before .before .before .before .before .before .before .get162 .ensures) _ _ (d .before .before .before .before .before .start .ensures) _ _ _ (d .run-steps .ensures))  -- write-out-requires
+    (λ c. search (accepting, passing-types, passing-count, passing-end, needs))  -- cast-t32
+    (λ c. search (accepting, passing-types, passing-count, passing-end, needs))  -- cast-t33
     (λ c. search (accepting, passing-types, passing-count, passing-end, needs))  -- same-length
     (λ c. search (accepting, passing-types, passing-count, passing-end, needs))  -- same-length-2
-    (λ c. let d = c .before .before .before .before .before .before .before .before .before .before in accept-done _ _ _ (d .before .before .before .before .before .before .before .before .before .before .before .before .before .before .pre) _ _ (d .before .before .before .before .before .before .before .before .before .get16 .ensures) (d .before .before .before .before .before .before .before .before .get162 .ensures) _ _ (d .before .before .before .before .before .start .ensures) _ _ _ (d .run-steps .ensures) _ _ (c .before .before .write-out .ensures) _ _ (c .before .before .before .before .before .before .ending-of .ensures) (d .before .before .before .before .before .before .before .before .before .before .root-type .ensures))  -- returns
+    (λ c. search (accepting, passing-types, passing-count, passing-end, needs))  -- returns
     )

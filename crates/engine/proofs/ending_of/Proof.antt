@@ -11,5 +11,4 @@ ending-of-spec =
     (λ c. search (concluding, needs))  -- returns
     (λ c. search (concluding, needs))  -- returns-2
     (λ c. search (concluding, needs))  -- returns-3
-    (λ c. search (concluding, needs))  -- returns-4
     )

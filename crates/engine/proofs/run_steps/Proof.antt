@@ -1,11 +1,12 @@
 -- `engine::run_steps` meets its contract. The invariant: the run of the first term stands where the state is. The measure is the fuel that is
 -- left. Assumes nothing.
 use Prim.Native.Nat.{_-_}
+use native.Mathlib.Omega.{arith}
 use mathlib.Core.Path.{_≡_}
 use lib.ListN.{length}
-use borrow.Author.Needs.{needs}
 use Rattle.records.specs.View.{entriesIn, recordsIn}
-use Rattle.engine.proofs.Looping.{Going, looping}
+use borrow.Author.Needs.{needs}
+use Rattle.engine.proofs.Looping.{Going, going-steps, going-stops, going-less, going-on, looping}
 use Rattle.engine.proofs.run_steps.Statement.{statement}
 use Rattle.engine.proofs.run_steps.Tie as tie
 
@@ -19,11 +20,15 @@ pub run-steps-spec : {M : Type 1} → statement M
 run-steps-spec =
     tie.close (tie.spec Inv-loop μ-loop
     (λ c. search (looping, needs))  -- loop-holds
-    (λ c κs. search (looping, needs))  -- step-requires
+    (λ c κs. search (looping, needs))  -- seek-requires
+    (λ c κs. search (looping, needs))  -- is-value-requires
     (λ c. search (looping, needs))  -- same-length
     (λ c. search (looping, needs))  -- returns
-    (λ c. search (looping, needs))  -- loop-less
-    (λ c. search (looping, needs))  -- loop-again
     (λ c. search (looping, needs))  -- same-length-2
     (λ c. search (looping, needs))  -- returns-2
+    (λ c κs. going-steps _ _ _ _ _ _ (c .before .before .before .before .before .before .before .before .before .before .before .before .pre) (c .before .before .before .before .before .before .before .before .before .loop .inv .1) _ _ (c .before .before .before .before .before .before .before .seek .ensures) _ (c .before .before .before .before .is-value .ensures) (c .before .before .before .if1 .left) (c .before .if2 .left) (omega arith))  -- step-requires
+    (λ c. search (looping, needs))  -- same-length-3
+    (λ c. going-stops _ _ _ _ _ _ (c .before .before .before .before .before .before .before .before .before .before .before .before .before .before .before .before .pre) (c .before .before .before .before .before .before .before .before .before .before .before .before .before .loop .inv .1) _ _ (c .before .before .before .before .before .before .before .before .before .before .before .seek .ensures) _ (c .before .before .before .before .before .before .before .before .is-value .ensures) (c .before .before .before .before .before .before .before .if1 .left) (c .before .before .before .before .before .if2 .left) _ _ (c .before .before .before .step .ensures) (c .if3 .taken))  -- returns-3
+    (λ c. going-less _ _ _ _ _ _ (c .before .before .before .before .before .before .before .before .before .before .before .before .before .before .before .before .pre) (c .before .before .before .before .before .before .before .before .before .before .before .before .before .loop .inv .1) _ _ (c .before .before .before .before .before .before .before .before .before .before .before .seek .ensures) _ (c .before .before .before .before .before .before .before .before .is-value .ensures) (c .before .before .before .before .before .before .before .if1 .left) (c .before .before .before .before .before .if2 .left) _ _ (c .before .before .before .step .ensures) (c .if3 .left))  -- loop-less
+    (λ c. (omega (arith, c .before .before .before .step .kept), going-on _ _ _ _ _ _ (c .before .before .before .before .before .before .before .before .before .before .before .before .before .before .before .before .pre) (c .before .before .before .before .before .before .before .before .before .before .before .before .before .loop .inv .1) _ _ (c .before .before .before .before .before .before .before .before .before .before .before .seek .ensures) _ (c .before .before .before .before .before .before .before .before .is-value .ensures) (c .before .before .before .before .before .before .before .if1 .left) (c .before .before .before .before .before .if2 .left) _ _ (c .before .before .before .step .ensures) (c .if3 .left)))  -- loop-again
     )

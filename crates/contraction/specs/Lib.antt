@@ -1,0 +1,5 @@
+-- Contraction: what a redex becomes.
+pub mod Plans
+pub mod Redexes
+pub mod Matches
+pub mod Making

@@ -1,4 +1,0 @@
--- What the contracts of the crate cite, and the words of its theorems.
-pub mod Finding
-pub mod Zoom
-pub mod Descent

@@ -1,5 +1,0 @@
--- What the contracts of the crate cite.
-pub mod Shapes
-pub mod Planned
-pub mod Redexes
-pub mod Matches

@@ -1,0 +1,51 @@
+-- The redex is contracted, once its plan is known: what stands around the hole that it leaves, and what fills it.
+use Prim.Native.Nat.{ℕ, _+_, _^_, _≤_, _<_}
+use mathlib.Core.List.{List, []}
+use mathlib.Core.Bool.{false}
+use mathlib.Core.Path.{_≡_}
+use Rattle.rules.specs.Terms.{Term}
+use Rattle.rules.specs.Types.{Table}
+use Rattle.rules.specs.Typing.{Typed}
+use Rattle.rules.specs.Format.{Record, mostRecords}
+use Rattle.contexts.specs.Contexts.{Context, plug, levelAt, Evaluation}
+use Rattle.zipper.specs.declared.focus.Ahead.{Ahead}
+use Rattle.zipper.specs.Layout.{Around}
+use Rattle.contraction.specs.declared.plans.Plan.{Plan}
+use Rattle.contraction.specs.Plans.{Planned}
+use Rattle.steps.specs.declared.state.State.{State}
+use Rattle.steps.specs.declared.state.Aim.{Aim}
+use Rattle.steps.specs.Stepping.{Runs, Becomes, After}
+
+-- The state holds the term `whole`, whose next term is u in the context C. The context stands around the hole. The plan says where the parts of u
+-- are read; the records from `free` on and before `end` are free. The event of the step has the hole's place, and as many variables as give way.
+pub record Contracting (types : Table) (rs : List Record) (s : State) (plan : Plan) (free : ℕ) (hole : Ahead) (whole : Term) : Type 0 where
+  pub runs : Runs types rs s whole
+  pub context : Context
+  pub contractum : Term
+  pub becomes : Becomes types whole (plug context contractum)
+  pub typed : Typed types [] 0 (plug context contractum)
+  pub around : Around rs context (hole .l) (hole .r) (hole .top)
+  pub evaluation : Evaluation 0 context
+  pub at-level : hole .level ≡ levelAt 0 context
+  pub end : ℕ
+  pub replaced : ℕ
+  pub planned : Planned rs free end (hole .r) plan replaced contractum
+  pub placed : becomes .event .place ≡ hole .l + 1
+  pub counted : becomes .event .replaced ≡ replaced
+  pub after-hole : hole .l ≤ free
+  pub gap : free + mostRecords ≤ end
+  pub before-right : end ≤ hole .r
+
+-- So it is of what becomes of the focus of a state that is at a redex.
+pub record Aims (types : Table) (rs : List Record) (s : State) (r : Aim) : Type 0 where
+  pub does : (t : Term) → Runs types rs s t → Contracting types rs s (r .plan) (r .free) (r .hole) t
+
+pub record CanProceed (rs : List Record) (s : State) (plan : Plan) (free : ℕ) (hole : Ahead) : Type 0 where
+  pub types : Table
+  pub whole : Term
+  pub contracting : Contracting types rs s plan free hole whole
+  pub going : s .stopped ≡ false
+  pub counts : s .steps + 1 < 2 ^ 32
+
+pub record Proceeds (rs rs′ : List Record) (s : State) (plan : Plan) (free : ℕ) (hole : Ahead) (r : State) : Type 0 where
+  pub does : (types : Table) (whole : Term) → Contracting types rs s plan free hole whole → After types rs′ s r whole (r .stopped)

@@ -1,8 +1,0 @@
--- `bound_at` meets its contract. Assumes nothing.
-use borrow.Author.Needs.{needs}
-use Rattle.zipper.proofs.Readings.{marked-first, bound-reads}
-use Rattle.zipper.proofs.measuring.bound_at.Statement.{statement}
-use Rattle.zipper.proofs.measuring.bound_at.Tie as tie
-
-pub bound-at-spec : {M : Type 1} → statement M
-bound-at-spec = tie.close (tie.spec (λ c κs. search (marked-first, needs)) (λ c. bound-reads _ _ _ (c .before .get .ensures)))
