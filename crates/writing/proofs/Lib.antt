@@ -3,7 +3,6 @@ pub mod Copying
 pub mod Slots
 pub mod State
 pub mod Children
-pub mod Past
 pub mod Tree
 pub mod Records
 pub mod Program

@@ -17,7 +17,7 @@ use Rattle.records.specs.View.{recordsIn}
 use Rattle.records.proofs.Form.{AreBytes, bytes-drop}
 use Rattle.records.proofs.Records.{records-length, records-joined-front}
 use Rattle.terms.proofs.There.{there-put}
-use Rattle.writing.specs.declared.Written.{Written}
+use Rattle.writing.specs.declared.Writer.{Writer}
 use Rattle.writing.specs.Slots.{Filled}
 use Rattle.writing.specs.Tree.{Writable, CanWrite, WroteTree, Writes}
 use Rattle.writing.specs.Program.{RecordsFit, CanWriteRecords, WroteRecords, WritesRecords}
@@ -65,12 +65,12 @@ module _ (ws : List Record) (i : ℕ) (s : List ℕ) (start : ℕ) where
   pub can-write-rest : CanWriteRecords ws i s start → length s < 2 ^ 64 → CanWrite ws i rest (record { number = 1; length = start })
   can-write-rest h b = record { tree = h .tree; can = tree-fits (h .tree) b (h .can) }
 
-  pub wrote-rest : (p : List ℕ) (r : Written) → length s < 2 ^ 64 → length p ≡ length rest → AreBytes (with-rest p) → Writes ws i rest p (record { number = 1; length = start }) r
-      → WritesRecords ws i s (with-rest p) start (r .state .length)
+  pub wrote-rest : (p : List ℕ) (r : Writer) → length s < 2 ^ 64 → length p ≡ length rest → AreBytes (with-rest p) → Writes ws i rest p (record { number = 1; length = start }) 0 r
+      → WritesRecords ws i s (with-rest p) start (r .length)
   unfolding overwritten
   wrote-rest p r b l y f = record { does = λ t h. go t h (f .does t (tree-fits t b h)) }
     where
-      go : (t : Term) → RecordsFit ws i s start t → WroteTree i rest p (record { number = 1; length = start }) t r → WroteRecords s (with-rest p) start t (r .state .length)
+      go : (t : Term) → RecordsFit ws i s start t → WroteTree rest p (record { number = 1; length = start }) 0 t r → WroteRecords s (with-rest p) start t (r .length)
       go t h q =
           let z = length-laid 1 0 t in
           let k : length rest ≡ length s - start = ap length rest-is ∙ length-drop start s in

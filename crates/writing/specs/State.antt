@@ -15,7 +15,7 @@ pub record CanPutRecord (ws : List Record) (i : ℕ) (s : List ℕ) (state : Wri
   pub head : CanHead ws i s (state .number)
   pub short : state .length + 16 < 2 ^ 64
 
--- Record i of ws is written under the state's number and has `children`, and the state has moved on.
-pub record PutsRecord (ws : List Record) (i : ℕ) (s : List ℕ) (state : Writer) (s′ : List ℕ) (state′ : Writer) (children : ℕ) : Type 0 where
-  pub head : Heads ws i s (state .number) s′ children
+-- Record i of ws is written under the state's number with the sibling `next` and has `children`, and the state has moved on.
+pub record PutsRecord (ws : List Record) (i : ℕ) (s : List ℕ) (state : Writer) (next : ℕ) (s′ : List ℕ) (state′ : Writer) (children : ℕ) : Type 0 where
+  pub head : Heads ws i s (state .number) next s′ children
   pub moved : state′ ≡ movedOn state

@@ -9,7 +9,6 @@ use Rattle.rules.specs.Links.{laid}
 use Rattle.records.specs.View.{recordsIn}
 use Rattle.terms.specs.Preorder.{At}
 use Rattle.writing.specs.declared.Writer.{Writer}
-use Rattle.writing.specs.declared.Written.{Written}
 use Rattle.writing.specs.Slots.{Filled}
 
 -- The tree t stands at i, and the bytes s have room for its records from the state's number on.
@@ -24,12 +23,11 @@ pub record CanWrite (ws : List Record) (i : ℕ) (s : List ℕ) (state : Writer)
   pub tree : Term
   pub can : Writable ws i s state tree
 
--- t is written from the state's number on, its root without a sibling; r tells the place after t and the state after its records.
-pub record WroteTree (i : ℕ) (s s′ : List ℕ) (state : Writer) (t : Term) (r : Written) : Type 0 where
-  pub filled : Filled s (state .number - 1) (laid (state .number) 0 t) s′
-  pub next : r .next ≡ i + size t
-  pub number : r .state .number ≡ state .number + size t
-  pub long : r .state .length ≡ state .length + 16 * size t
+-- t is written from the state's number on, its root with the sibling `next`; r is the state after its records.
+pub record WroteTree (s s′ : List ℕ) (state : Writer) (next : ℕ) (t : Term) (r : Writer) : Type 0 where
+  pub filled : Filled s (state .number - 1) (laid (state .number) next t) s′
+  pub number : r .number ≡ state .number + size t
+  pub long : r .length ≡ state .length + 16 * size t
 
-pub record Writes (ws : List Record) (i : ℕ) (s s′ : List ℕ) (state : Writer) (r : Written) : Type 0 where
-  pub does : (t : Term) → Writable ws i s state t → WroteTree i s s′ state t r
+pub record Writes (ws : List Record) (i : ℕ) (s s′ : List ℕ) (state : Writer) (next : ℕ) (r : Writer) : Type 0 where
+  pub does : (t : Term) → Writable ws i s state t → WroteTree s s′ state next t r

@@ -1,14 +1,12 @@
 // A term written out as a program: the two counts, the type table, and the records in preorder, numbered as they are written.
-// Of the term, which is read from a list of records with measures in place of links, no tree is walked twice: a record is written before its
-// children, and the link to a sibling is put in once the sibling's number is known.
+// The term is read from a list of records with measures in place of links: a root holds the size of its tree, so that the number of the next
+// sibling is known before a tree is written, and each record is written once.
 ghost use Prim.Native.Nat.{_+_, _<_, _≤_};
 ghost use mathlib.Core.Path.{_≡_};
-ghost use lib.Dec.{eqb};
 ghost use lib.ListN.{length};
-ghost use Rattle.rules.specs.Lists.{pick};
 ghost use Rattle.records.specs.Overwritten.{overwritten};
 ghost use Rattle.records.specs.View.{recordsIn};
-ghost use Rattle.writing.specs.Slots.{HasSlot, CanHead, Heads, Links};
+ghost use Rattle.writing.specs.Slots.{linkTo, CanHead, Heads};
 ghost use Rattle.writing.specs.State.{CanPutRecord, PutsRecord};
 ghost use Rattle.writing.specs.Tree.{CanWrite, Writes};
 ghost use Rattle.writing.specs.Program.{CanWriteRecords, WritesRecords, CanWriteProgram, WritesProgram};
@@ -19,40 +17,35 @@ pub struct Writer {
     pub length: usize,
 }
 
-// After a tree: the place after it in the list that it is read from, and the state.
-pub struct Written {
-    pub next: usize,
-    pub state: Writer,
-}
-
-// The link of record `number` to its first child, which is the record after it.
-fn first_link(children: u16, number: u16) -> u16
-    requires { ⌜ number < 65535 ⌝ }
-    ensures { λ r. ⌜ r ≡ pick (eqb children 0) 0 (number + 1) ⌝ }
+// The number that is `size` after `number`, as the link to a record of which there are `count`: 0 where there is none.
+fn link(count: u16, number: u16, size: u16) -> u16
+    requires { ⌜ number + size < 65536 ⌝ }
+    ensures { λ r. ⌜ r ≡ linkTo count (number + size) ⌝ }
 {
-    if children == 0 { 0 } else { number + 1 }
+    if count == 0 { 0 } else { number + size }
 }
 
-// Writes the record at `i` of `w` as record `number`, and tells how many children it has.
-fn write_head(w: &[u8], i: usize, out: &mut [u8], number: u16) -> u16
+// Writes the record at `i` of `w` as record `number` with the sibling `next`, and tells how many children it has. The first of them is the record
+// after it.
+fn write_head(w: &[u8], i: usize, out: &mut [u8], number: u16, next: u16) -> u16
     requires { ⌜ CanHead (recordsIn (now w)) i (now out) number ⌝ }
-    ensures { λ r. ⌜ Heads (recordsIn (now (w .entry))) i (now (out .entry)) number (now (out .exit)) r ⌝ }
+    ensures { λ r. ⌜ Heads (recordsIn (now (w .entry))) i (now (out .entry)) number next (now (out .exit)) r ⌝ }
 {
     let mut r = records::get(w, i);
     let children = rules::children(r.kind);
-    r.first = first_link(children, number);
-    r.next = 0;
+    r.first = link(children, number, 1);
+    r.next = next;
     records::put(out, (number - 1) as usize, r);
     children
 }
 
 impl Writer {
-    // Writes the record at `i` of `w` under the next number, and moves on by that record. Tells how many children it has.
-    fn put(&mut self, w: &[u8], i: usize, out: &mut [u8]) -> u16
+    // Writes the record at `i` of `w` under the next number, with the sibling `next`, and moves on by that record. Tells how many children it has.
+    fn put(&mut self, w: &[u8], i: usize, out: &mut [u8], next: u16) -> u16
         requires { ⌜ CanPutRecord (recordsIn (now w)) i (now out) (now self) ⌝ }
-        ensures { λ r. ⌜ PutsRecord (recordsIn (now (w .entry))) i (now (out .entry)) (now (self .entry)) (now (out .exit)) (now (self .exit)) r ⌝ }
+        ensures { λ r. ⌜ PutsRecord (recordsIn (now (w .entry))) i (now (out .entry)) (now (self .entry)) next (now (out .exit)) (now (self .exit)) r ⌝ }
     {
-        let children = write_head(w, i, out, self.number);
+        let children = write_head(w, i, out, self.number, next);
         self.number += 1;
         self.length += 16;
         children
@@ -66,52 +59,31 @@ struct Begun {
 }
 
 // Lends the state for the writing of the record at `i` of `w`, so that no caller needs a reference to it.
-fn put_record(w: &[u8], i: usize, out: &mut [u8], mut state: Writer) -> Begun
+fn put_record(w: &[u8], i: usize, out: &mut [u8], mut state: Writer, next: u16) -> Begun
     requires { ⌜ CanPutRecord (recordsIn (now w)) i (now out) state ⌝ }
-    ensures { λ r. ⌜ PutsRecord (recordsIn (now (w .entry))) i (now (out .entry)) state (now (out .exit)) (r .state) (r .children) ⌝ }
+    ensures { λ r. ⌜ PutsRecord (recordsIn (now (w .entry))) i (now (out .entry)) state next (now (out .exit)) (r .state) (r .children) ⌝ }
 {
-    let children = state.put(w, i, out);
+    let children = state.put(w, i, out, next);
     Begun { children, state }
 }
 
-// Writes record `number` again, with another sibling.
-fn set_next(out: &mut [u8], number: u16, next: u16)
-    requires { ⌜ HasSlot (now out) number ⌝ }
-    ensures { λ _. ⌜ Links (now (out .entry)) number next (now (out .exit)) ⌝ }
-{
-    let slot = (number - 1) as usize;
-    let mut r = records::get(out, slot);
-    r.next = next;
-    records::put(out, slot, r);
-}
-
-// Writes the tree at `i` of `w` from the state's number on.
-pub fn write_tree(w: &[u8], i: usize, out: &mut [u8], state: Writer) -> Written
+// Writes the tree at `i` of `w` from the state's number on, its root with the sibling `next`: the root, and then its children one after another.
+pub fn write_tree(w: &[u8], i: usize, out: &mut [u8], state: Writer, next: u16) -> Writer
     requires { ⌜ CanWrite (recordsIn (now w)) i (now out) state ⌝ }
-    ensures { λ r. ⌜ Writes (recordsIn (now (w .entry))) i (now (out .entry)) (now (out .exit)) state r ⌝ }
+    ensures { λ r. ⌜ Writes (recordsIn (now (w .entry))) i (now (out .entry)) (now (out .exit)) state next r ⌝ }
 {
-    let root = put_record(w, i, out, state);
-    let children = root.children;
-    let begun = root.state;
-    if children == 0 {
-        return Written {
-            next: i + 1,
-            state: begun,
-        };
+    let root = put_record(w, i, out, state, next);
+    let mut done = root.state;
+    let mut left = root.children;
+    let mut at = i + 1;
+    while 0 < left {
+        left -= 1;
+        let after = terms::skip(w, at);
+        let sibling = link(left, done.number, (after - at) as u16);
+        done = write_tree(w, at, out, done, sibling);
+        at = after;
     }
-    let one = write_tree(w, i + 1, out, begun);
-    if children == 1 {
-        return one;
-    }
-    let second = one.state;
-    set_next(out, begun.number, second.number);
-    let two = write_tree(w, one.next, out, second);
-    if children == 2 {
-        return two;
-    }
-    let third = two.state;
-    set_next(out, second.number, third.number);
-    write_tree(w, two.next, out, third)
+    done
 }
 
 // Copies `from` over the bytes of `out` from place `at` on.
@@ -135,8 +107,8 @@ fn write_records(w: &[u8], i: usize, out: &mut [u8], start: usize) -> usize
         number: 1,
         length: start,
     };
-    let done = write_tree(w, i, &mut out[start..], first);
-    done.state.length
+    let done = write_tree(w, i, &mut out[start..], first, 0);
+    done.length
 }
 
 // Writes the table of `types` entries and the tree at `i` of `w`, of `count` records, as a program, and tells its length.
