@@ -9,7 +9,7 @@ write-out-spec =
     tie.close (tie.spec
     (λ c κs. search (putting-out, needs))  -- settle-requires
     (λ c κs. search (putting-out, needs))  -- close-all-requires
-    (λ c. out-length _ _ _ _ _ (c .before .before .before .before .before .before .before .before .before .before .before .before .before .pre) _ _ (c .before .before .before .before .before .before .before .before .settle .ensures) _ _ (c .before .before .before .before .close-all .ensures))  -- cast-write-program
+    (λ c. search out-length)  -- cast-write-program
     (λ c κs. search (putting-out, needs))  -- write-program-requires
     (λ c. search (putting-out, needs))  -- same-length
     (λ c. search (putting-out, needs))  -- same-length-2
