@@ -14,7 +14,7 @@ use Rattle.rules.specs.Kinds.{number, function, fix, lift, quote, splice, appli
 use Rattle.rules.specs.Terms.{Term, leaf, unary, rootKind, size}
 use Rattle.rules.specs.Indices.{replaced, gaveWay}
 use Rattle.rules.specs.Types.{Table}
-use Rattle.rules.specs.Contractions.{StepRule, onApplication, onFix, onLift, onSplice, onSuccess, onFailure, Contraction, apply, unroll, lifted, spliced, succeeds, fails}
+use Rattle.rules.specs.Contractions.{StepRule, onApplication, onFix, onLift, onSplice, onSuccess, onFailure, ruleNumber, Contraction, apply, unroll, lifted, spliced, succeeds, fails}
 use Rattle.rules.specs.Format.{Record, noRecord}
 use Rattle.rules.proofs.FreeBounds.{typed-bound}
 use Rattle.rules.proofs.RuleKinds.{ruleKind, rewrites-kind, match-range}
@@ -28,7 +28,7 @@ use Rattle.substitution.specs.declared.arguments.Argument.the-variants.{Quote}
 use Rattle.contraction.specs.declared.plans.Plan.{Plan}
 use Rattle.contraction.specs.declared.plans.Plan.the-variants.{Tree, Made}
 use Rattle.contraction.specs.Plans.{Planned, itself, anew, PlansTree}
-use Rattle.contraction.specs.Redexes.{RedexAt, HasRedex, PlansRedex, CanPlanWhole, PlansWhole}
+use Rattle.contraction.specs.Redexes.{RedexAt, HasRedex, PlansRedex, CanPlanWhole, TellsRule, PlansWhole}
 use Rattle.contraction.proofs.Places.{Before, before-has, only-child, first-of-two, second-of-two}
 use Rattle.contraction.proofs.Arguments.{quote-stands}
 
@@ -196,13 +196,27 @@ module _ (rs : List Record) (s : ℕ) (x : Read) (ex : recordMeant x ≡ getD rs
       is = λ types lo hi end rule n u h z. plans .is types lo hi end n u (subst (λ r. RedexAt types rs s lo r n u) (rule-is h z) h);
     }
 
-  -- What is left where the other kinds are ruled out is a splice.
-  pub splice-left : (x .kind ≡ 4 → ⊥) → (x .kind ≡ 5 → ⊥) → (x .kind ≡ 6 → ⊥) → PlansWhole rs s (Tree (s + 2) 0)
-  splice-left a b c = record {
-    is = λ types lo hi end rule n u h z.
-        let w = rule-read h in
-        let e = only-splice rule (low-kind h z) (λ k. a (w ∙ k)) (λ k. b (w ∙ k)) (λ k. c (w ∙ k)) in
-        splice-plans rs s .is types lo hi end n u (subst (λ r. RedexAt types rs s lo r n u) e h);
-  }
+    rule-told : TellsRule rs s (ruleNumber r)
+    rule-told = record { is = λ types lo rule n u h z. ap ruleNumber (sym (rule-is h z)) }
 
-pub ruleset rewriting = (child-fits, grandchild-fits, behind-child-fits, redex-in, function-there, body-of-function, body-of-fix, apply-plans, unroll-plans, lift-plans, whole-in, redex-there, redex-planned, splice-left)
+  pub application-told : x .kind ≡ 4 → TellsRule rs s 1
+  application-told = rule-told onApplication
+
+  pub fix-told : x .kind ≡ 5 → TellsRule rs s 2
+  fix-told = rule-told onFix
+
+  pub lift-told : x .kind ≡ 6 → TellsRule rs s 3
+  lift-told = rule-told onLift
+
+  -- What is left where the other kinds are ruled out is a splice.
+  module _ (a : x .kind ≡ 4 → ⊥) (b : x .kind ≡ 5 → ⊥) (c : x .kind ≡ 6 → ⊥) where
+    only-left : {types : Table} {lo n : ℕ} {rule : StepRule} {u : Term} (h : RedexAt types rs s lo rule n u) → kindNumber (rootKind (h .redex)) < 9 → rule ≡ onSplice
+    only-left {rule = rule} h z = let w = rule-read h in only-splice rule (low-kind h z) (λ k. a (w ∙ k)) (λ k. b (w ∙ k)) (λ k. c (w ∙ k))
+
+    pub splice-told : TellsRule rs s 4
+    splice-told = record { is = λ types lo rule n u h z. ap ruleNumber (sym (only-left h z)) }
+
+    pub splice-left : PlansWhole rs s (Tree (s + 2) 0)
+    splice-left = record { is = λ types lo hi end rule n u h z. splice-plans rs s .is types lo hi end n u (subst (λ r. RedexAt types rs s lo r n u) (only-left h z) h) }
+
+pub ruleset rewriting = (child-fits, grandchild-fits, behind-child-fits, redex-in, function-there, body-of-function, body-of-fix, apply-plans, unroll-plans, lift-plans, whole-in, redex-there, redex-planned, application-told, fix-told, lift-told, splice-told, splice-left)

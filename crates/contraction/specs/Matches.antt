@@ -13,7 +13,7 @@ use Rattle.rules.specs.Typing.{Env, Typed}
 use Rattle.rules.specs.Conditions.{Holds}
 use Rattle.rules.specs.FieldUses.{formed}
 use Rattle.rules.specs.Matching.{matched}
-use Rattle.rules.specs.Contractions.{StepRule, Contraction}
+use Rattle.rules.specs.Contractions.{StepRule, ruleNumber, Contraction}
 use Rattle.rules.specs.Format.{Record, noRecord}
 use Rattle.terms.specs.Preorder.{At}
 use Rattle.substitution.specs.declared.arguments.Argument.{Argument}
@@ -43,16 +43,24 @@ pub record OpenMatch (types : Table) (rs : List Record) (p lo hi end n : ℕ) (u
   pub failure-there : At rs (hi + size success) failure
   pub upto : hi + size success + size failure ≤ end
 
--- There is such a match; the plan is right of every one.
-pub record CanPlanMatch (types : Table) (rs : List Record) (p hi : ℕ) : Type 0 where
+-- There is such a match; i is the number of the rule of every one.
+pub record HasMatch (types : Table) (rs : List Record) (p hi : ℕ) : Type 0 where
   pub lo : ℕ
   pub end : ℕ
   pub replaced : ℕ
   pub contractum : Term
   pub found : OpenMatch types rs p lo hi end replaced contractum
 
-pub record PlansMatch (types : Table) (rs : List Record) (p hi : ℕ) (plan : Plan) : Type 0 where
-  pub is : (lo end n : ℕ) (u : Term) → OpenMatch types rs p lo hi end n u → Planned rs lo hi end plan n u
+pub record TellsMatchRule (types : Table) (rs : List Record) (p hi i : ℕ) : Type 0 where
+  pub is : (lo end n : ℕ) (u : Term) (h : OpenMatch types rs p lo hi end n u) → i ≡ ruleNumber (h .rule)
+
+-- There is one by the rule of number i; the plan is right of every one by that rule.
+pub record CanPlanMatch (types : Table) (rs : List Record) (p hi i : ℕ) : Type 0 where
+  pub has : HasMatch types rs p hi
+  pub number : i ≡ ruleNumber (has .found .rule)
+
+pub record PlansMatch (types : Table) (rs : List Record) (p hi i : ℕ) (plan : Plan) : Type 0 where
+  pub is : (lo end n : ℕ) (u : Term) (h : OpenMatch types rs p lo hi end n u) → i ≡ ruleNumber (h .rule) → Planned rs lo hi end plan n u
 
 -- A match with its code, which is quoted.
 pub record MatchRedex : Type 0 where

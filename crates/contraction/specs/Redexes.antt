@@ -1,12 +1,13 @@
 -- A redex that stands whole in the list of records: an application, a fix, a lift or a splice.
 use Prim.Native.Nat.{ℕ, _+_, _*_, _<_, _≤_}
 use mathlib.Core.List.{List}
+use mathlib.Core.Path.{_≡_}
 use lib.ListN.{length}
 use Rattle.rules.specs.Kinds.{kindNumber}
 use Rattle.rules.specs.Terms.{Term, rootKind, size}
 use Rattle.rules.specs.Types.{Table}
 use Rattle.rules.specs.Typing.{Env, Typed}
-use Rattle.rules.specs.Contractions.{StepRule, Contraction}
+use Rattle.rules.specs.Contractions.{StepRule, ruleNumber, Contraction}
 use Rattle.rules.specs.Format.{Record}
 use Rattle.terms.specs.Preorder.{At}
 use Rattle.contraction.specs.declared.plans.Plan.{Plan}
@@ -39,6 +40,10 @@ pub record CanPlanWhole (rs : List Record) (s : ℕ) : Type 0 where
   pub rule : StepRule
   pub has : HasRedex rs s rule
   pub whole : kindNumber (rootKind (has .found .redex)) < 9
+
+-- i is the number of its rule.
+pub record TellsRule (rs : List Record) (s i : ℕ) : Type 0 where
+  pub is : (types : Table) (lo : ℕ) (rule : StepRule) (n : ℕ) (u : Term) (h : RedexAt types rs s lo rule n u) → kindNumber (rootKind (h .redex)) < 9 → i ≡ ruleNumber rule
 
 pub record PlansWhole (rs : List Record) (s : ℕ) (plan : Plan) : Type 0 where
   pub is : (types : Table) (lo hi end : ℕ) (rule : StepRule) (n : ℕ) (u : Term) (h : RedexAt types rs s lo rule n u) → kindNumber (rootKind (h .redex)) < 9

@@ -8,6 +8,8 @@ mod whole; // what a redex of the other kinds becomes
 pub use making::Block;
 pub use making::fits;
 pub use making::make;
+pub use matching::match_rule;
 pub use matching::plan_match;
 pub use plans::Plan;
 pub use whole::plan_whole;
+pub use whole::whole_rule;

@@ -7,7 +7,7 @@ use substitution::Argument;
 use substitution::Arguments;
 ghost use Rattle.records.specs.View.{entriesIn, recordsIn};
 ghost use Rattle.records.specs.Places.{Within};
-ghost use Rattle.contraction.specs.Matches.{IsOpened, HasApplication, SecondType, HasCode, TellsMatch, CanSucceed, PlansSuccess, CanPlanMatch, PlansMatch};
+ghost use Rattle.contraction.specs.Matches.{IsOpened, HasApplication, SecondType, HasCode, TellsMatch, CanSucceed, PlansSuccess, HasMatch, TellsMatchRule, CanPlanMatch, PlansMatch};
 
 // The function of type `ty` that a match of kind 13 binds, of the body at `at`.
 fn opened_at(table: &[u8], at: usize, ty: u16) -> Argument
@@ -76,12 +76,21 @@ fn success(table: &[u8], w: &[u8], p: usize, s: usize) -> Plan
     }
 }
 
-// "A match becomes success, with its variables replaced, or failure." Its record is at `p`, its success at `s`.
-pub fn plan_match(table: &[u8], w: &[u8], p: usize, s: usize) -> Plan
-    requires { ⌜ CanPlanMatch (entriesIn (now table)) (recordsIn (now w)) p s ⌝ }
-    ensures { λ r. ⌜ PlansMatch (entriesIn (now (table .entry))) (recordsIn (now (w .entry))) p s r ⌝ }
+// The number of the rule that rewrites the match at `p`, whose success is at `s`: "5 to 16 the kinds 9 to 14, success before failure".
+pub fn match_rule(table: &[u8], w: &[u8], p: usize, s: usize) -> u16
+    requires { ⌜ HasMatch (entriesIn (now table)) (recordsIn (now w)) p s ⌝ }
+    ensures { λ r. ⌜ TellsMatchRule (entriesIn (now (table .entry))) (recordsIn (now (w .entry))) p s r ⌝ }
 {
-    if matches(table, w, p) {
+    let rule = 2 * terms::kind_at(w, p) - 13;
+    if matches(table, w, p) { rule } else { rule + 1 }
+}
+
+// "A match becomes success, with its variables replaced, or failure." Its record is at `p`, its success at `s`. The rules of success are the odd ones.
+pub fn plan_match(table: &[u8], w: &[u8], p: usize, s: usize, rule: u16) -> Plan
+    requires { ⌜ CanPlanMatch (entriesIn (now table)) (recordsIn (now w)) p s rule ⌝ }
+    ensures { λ r. ⌜ PlansMatch (entriesIn (now (table .entry))) (recordsIn (now (w .entry))) p s rule r ⌝ }
+{
+    if rule % 2 == 1 {
         success(table, w, p, s)
     } else {
         Plan::Tree(terms::skip(w, s), 0)

@@ -4,7 +4,7 @@ use crate::plans::Plan;
 use substitution::Argument;
 ghost use Rattle.rules.specs.Contractions.{onApplication, onFix, onLift};
 ghost use Rattle.records.specs.View.{recordsIn};
-ghost use Rattle.contraction.specs.Redexes.{HasRedex, PlansRedex, CanPlanWhole, PlansWhole};
+ghost use Rattle.contraction.specs.Redexes.{HasRedex, PlansRedex, CanPlanWhole, TellsRule, PlansWhole};
 
 // "The argument replaces the function's variable in its body."
 fn apply(w: &[u8], s: usize) -> Plan
@@ -31,6 +31,21 @@ fn lift(w: &[u8], s: usize) -> Plan
 {
     let r = records::get(w, s);
     Plan::Made(Argument::Quote(s + 1, r.ty))
+}
+
+// The number of the rule that rewrites the redex at `s`, by its kind: "1 application, 2 fix, 3 lift, 4 splice".
+pub fn whole_rule(w: &[u8], s: usize) -> u16
+    requires { ⌜ CanPlanWhole (recordsIn (now w)) s ⌝ }
+    ensures { λ r. ⌜ TellsRule (recordsIn (now (w .entry))) s r ⌝ }
+{
+    let r = records::get(w, s);
+    let kind = r.kind;
+    match kind {
+        4 => 1,
+        5 => 2,
+        6 => 3,
+        _ => 4,
+    }
 }
 
 // What the redex at `s` becomes, by the rule of its kind. "Splice of a quote: the quoted tree"; that is the kind left beside the named ones.

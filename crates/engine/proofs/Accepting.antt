@@ -2,10 +2,8 @@
 use Prim.Native.Nat.{ℕ, _+_, _*_, _-_}
 use native.Mathlib.Omega.{arith}
 use mathlib.Core.List.{List, []}
-use mathlib.Core.Path.{_≡_, sym, ap, ap₂, _∙_}
+use mathlib.Core.Path.{_≡_, sym, ap, _∙_}
 use lib.ListN.{length, take, drop, length-take, length-drop}
-use mir.Syntax.{w32}
-use mir.Val.{Fits}
 use Rattle.rules.specs.Editions.{firstEdition}
 use Rattle.rules.specs.Terms.{Term, typeOf}
 use Rattle.rules.specs.Format.{Record, typeCount, recordCount, tableOf, recordsOf}
@@ -13,7 +11,7 @@ use Rattle.rules.specs.Links.{rootTree}
 use Rattle.rules.specs.Typing.{Typed}
 use Rattle.rules.specs.Check.{typeNo}
 use Rattle.rules.specs.Meets.{Meets}
-use Rattle.rules.specs.Run.{endingNumber, programCourse, outcomeOf, output, writtenOver}
+use Rattle.rules.specs.Run.{programCourse, outcomeOf, output, writtenOver}
 use Rattle.rules.proofs.Meaning.{exactly, records-counted, root-size, unlike}
 use Rattle.terms.proofs.Loaded.{form-linked}
 use Rattle.rules.proofs.Tree.{tree-type}
@@ -24,11 +22,10 @@ use Rattle.records.proofs.Records.{records-length}
 use Rattle.steps.specs.declared.state.State.{State}
 use Rattle.steps.specs.Starting.{CanStart, Starts}
 use Rattle.steps.specs.Stepping.{HoldsTerm}
-use Rattle.steps.specs.Output.{CanWriteOut, WritesOut}
-use Rattle.steps.proofs.Values.{runs-few}
-use Rattle.engine.specs.Running.{endedAt}
-use Rattle.engine.specs.Looping.{CanRun, Stopped, RunsOut, Concluded, Concludes}
+use Rattle.engine.specs.declared.Completion.{Completion}
+use Rattle.engine.specs.Finishing.{CanFinish, Finished, Finishes}
 use Rattle.engine.specs.Accepting.{CanAccept, Accepted}
+use Rattle.engine.proofs.Checks.{passing-types, passing-count, passing-end}
 
 -- The two parts of the program that the code lends on.
 abbrev tablePart : List ℕ → ℕ → List ℕ
@@ -69,65 +66,45 @@ module _ (p out work : List ℕ) (h : CanAccept p out work) (T R : ℕ) (eT : T 
     holds : HoldsTerm (entriesIn (tablePart p T)) rs₁ s first
     holds = st .holds (entriesIn (tablePart p T)) first-typed
 
-    pub accept-runs : CanRun (entriesIn (tablePart p T)) rs₁ s
-    accept-runs = record {
-      term = first;
-      holds = holds;
-      going = st .going;
-      none = st .steps;
-      unlike = rw (← table-is) (unlike (tableOf p) (m .form .entries));
+    table-long : length (tablePart p T) ≡ 6 * T
+    table-long = omega (arith, length-take (4 + 6 * T - 4) (drop 4 p), length-drop 4 p, m .exact, eT)
+
+    pub accept-finishes : CanFinish (tablePart p T) T rs₁ s out
+    accept-finishes = record {
+      run = record {
+        term = first;
+        holds = holds;
+        going = st .going;
+        none = st .steps;
+        unlike = rw (← table-is) (unlike (tableOf p) (m .form .entries));
+      };
+      entries = table-long;
+      some-types = omega (arith, eT, m .counts .0);
+      few-types = omega (arith, eT, m .counts .0);
+      room = h .room;
     }
 
-    module _ (fuel : ℕ) (rs₂ : List Record) (q : State) (ro : RunsOut (entriesIn (tablePart p T)) fuel rs₁ rs₂ s q) where
-      stopped : Stopped (entriesIn (tablePart p T)) fuel first rs₂ q
-      stopped = ro .does first holds
+    module _ (fuel : ℕ) (out′ : List ℕ) (r : Completion) (fi : Finishes (tablePart p T) fuel rs₁ s out out′ r) (root : ℕ) (er : root ≡ typeNo (recordsOf p) 1) where
+      finished : Finished (tablePart p T) out out′ (outcomeOf (programCourse p fuel)) r
+      finished = rw (table-is, records-are) (fi .does first holds)
 
-      table-long : length (tablePart p T) ≡ 6 * T
-      table-long = omega (arith, length-take (4 + 6 * T - 4) (drop 4 p), length-drop 4 p, m .exact, eT)
+      output-is : output (entriesIn (tablePart p T)) (programCourse p fuel .last) ≡ output (tableOf p) (programCourse p fuel .last)
+      output-is = ap (λ t. output t (programCourse p fuel .last)) (sym table-is)
 
-      pub accept-writes : CanWriteOut (tablePart p T) T rs₂ q out
-      accept-writes = record {
-        rules = entriesIn (tablePart p T);
-        term = stopped .last;
-        runs = stopped .runs;
-        entries = table-long;
-        some-types = omega (arith, eT, m .counts .0);
-        few-types = omega (arith, eT, m .counts .0);
-        room = h .room;
+      root-is : root ≡ typeOf (programCourse p fuel .last)
+      root-is = er ∙ sym (tree-type (recordsOf p) (length (recordsOf p)) 1) ∙ sym (last-type firstEdition (omega arith) p m fuel)
+
+      pub accept-done : Accepted p fuel out out′ (record { number = 0; place = 0; ending = r .ending; steps = r .steps; «root_type» = root; written = r .written })
+      accept-done = record {
+        answer = λ i. record {
+          number = 0;
+          place = 0;
+          ending = finished .ending i;
+          steps = finished .steps i;
+          rootType = root-is i;
+          written = (finished .written ∙ ap length output-is) i;
+        };
+        output = finished .bytes ∙ ap (writtenOver out) output-is;
       }
 
-      module _ (out′ : List ℕ) (w : ℕ) (wo : WritesOut (tablePart p T) T rs₂ q out out′ w) where
-        pub accept-fits : Fits w32 w
-        accept-fits =
-            let few = runs-few (entriesIn (tablePart p T)) rs₂ q (stopped .last) (stopped .runs) in
-            omega (arith, wo .does (entriesIn (tablePart p T)) (stopped .last) (stopped .runs) .long, few, eT, m .counts .0)
-
-        module _ (e root : ℕ) (co : Concludes q e) (er : root ≡ typeNo (recordsOf p) 1) where
-          concluded : Concluded (entriesIn (tablePart p T)) fuel first rs₂ q e
-          concluded = co .does (entriesIn (tablePart p T)) fuel first rs₂ stopped
-
-          outcome-is : outcomeOf (programCourse p fuel) ≡ endedAt (concluded .ending) (q .steps) (concluded .last)
-          outcome-is = rw (table-is, records-are) (concluded .outcome)
-
-          output-is : output (tableOf p) (programCourse p fuel .last) ≡ output (entriesIn (tablePart p T)) (concluded .last)
-          output-is = ap₂ output table-is (ap (λ o. o .last) outcome-is)
-
-          root-is : root ≡ typeOf (programCourse p fuel .last)
-          root-is = er ∙ sym (tree-type (recordsOf p) (length (recordsOf p)) 1) ∙ sym (last-type firstEdition (omega arith) p m fuel)
-
-          pub accept-done : Accepted p fuel out out′ (record { number = 0; place = 0; ending = e; steps = q .steps; «root_type» = root; written = w })
-          accept-done =
-              let b = wo .does (entriesIn (tablePart p T)) (concluded .last) (concluded .runs) in
-              record {
-                answer = λ i. record {
-                  number = 0;
-                  place = 0;
-                  ending = (concluded .number ∙ ap (λ o. endingNumber (o .ending)) (sym outcome-is)) i;
-                  steps = ap (λ o. o .steps) (sym outcome-is) i;
-                  rootType = root-is i;
-                  written = (b .end ∙ ap length (sym output-is)) i;
-                };
-                output = b .bytes ∙ ap (writtenOver out) (sym output-is);
-              }
-
-pub ruleset accepting = (accept-starts, accept-runs, accept-writes, accept-fits, accept-done)
+pub ruleset accepting = (passing-types, passing-count, passing-end, accept-starts, accept-finishes, accept-done)

@@ -2,5 +2,6 @@
 pub mod Checks
 pub mod Stepping
 pub mod Looping
+pub mod Finishing
 pub mod Accepting
 pub mod Answering

@@ -90,7 +90,7 @@ module _ (types : Table) (fuel : ℕ) (rs₀ rs : List Record) (s₀ s : State) 
           going-on z = record { going = z; each = λ first k. step first k (subst (After types rs₂ q r (g .each first k .term)) z (after first k)) }
             where
               step : (first : Term) (k : HoldsTerm types rs₀ s₀ first) → After types rs₂ q r (g .each first k .term) false → StandsAt types fuel first rs₂ r
-              step first k (running u c m w e) = record {
+              step first k (running u c m w e _) = record {
                 term = u;
                 holds = w;
                 stands = rw e (goes-on types fuel first (q .steps) (g .each first k .term) (stands first k) (c .event) u l (c .no-value) (c .is-next) m);
@@ -100,13 +100,13 @@ module _ (types : Table) (fuel : ℕ) (rs₀ rs : List Record) (s₀ s : State) 
           going-less z = go (subst (After types rs₂ q r (g .each (h .term) (h .holds) .term)) z (after (h .term) (h .holds)))
             where
               go : {t : Term} → After types rs₂ q r t false → fuel - r .steps < fuel - s .steps
-              go (running u c m w e) = omega (arith, e, f .steps)
+              go (running u c m w e _) = omega (arith, e, f .steps)
 
           pub going-stops : r .stopped ≡ true → RunsOut types fuel rs₀ rs₂ s₀ r
           going-stops z = record { does = λ first k. stop first k (subst (After types rs₂ q r (g .each first k .term)) z (after first k)) }
             where
               stop : (first : Term) (k : HoldsTerm types rs₀ s₀ first) → After types rs₂ q r (g .each first k .term) true → Stopped types fuel first rs₂ r
-              stop first k (too-large u c m w e) = record {
+              stop first k (too-large u c m w e _) = record {
                 last = g .each first k .term;
                 runs = w;
                 stop = subst (Stop types fuel first (r .steps) (g .each first k .term)) (sym z)

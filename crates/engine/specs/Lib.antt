@@ -2,4 +2,5 @@
 pub mod Answers
 pub mod Running
 pub mod Looping
+pub mod Finishing
 pub mod Accepting

@@ -7,6 +7,7 @@ ghost use Rattle.rules.specs.Run.{refused};
 ghost use Rattle.records.specs.View.{entriesIn, recordsIn};
 ghost use Rattle.engine.specs.Answers.{checkMeant, runMeant, Passing, Ran};
 ghost use Rattle.engine.specs.Looping.{CanRun, RunsOut, Concludes};
+ghost use Rattle.engine.specs.Finishing.{CanFinish, Finishes};
 ghost use Rattle.engine.specs.Accepting.{CanAccept, Accepted};
 use steps::State;
 
@@ -124,6 +125,35 @@ fn ending_of(s: State) -> u32
     if s.stopped { 3 } else { 2 }
 }
 
+// What a run came to: the number of its ending, the steps made and the bytes written.
+struct Completion {
+    ending: u32,
+    steps: u32,
+    written: u32,
+}
+
+// Runs the first term and writes the last one out, under a table of `types` entries.
+fn finish(
+    start: State,
+    table: &[u8],
+    types: u16,
+    fuel: u32,
+    work: &mut [u8],
+    output: &mut [u8],
+) -> Completion
+    requires { ⌜ CanFinish (now table) types (recordsIn (now work)) start (now output) ⌝ }
+    ensures { λ r. ⌜ Finishes (now (table .entry)) fuel (recordsIn (now (work .entry))) start (now (output .entry)) (now (output .exit)) r ⌝ }
+{
+    let last = run_steps(start, table, fuel, work);
+    let ending = ending_of(last);
+    let written = last.write_out(table, types, work, output);
+    Completion {
+        ending,
+        steps: last.steps,
+        written: written as u32,
+    }
+}
+
 // The run of a program that is passed.
 fn accepted(program: &[u8], fuel: u32, output: &mut [u8], work: &mut [u8]) -> RunAnswer
     requires { ⌜ CanAccept (now program) (now output) (now work) ⌝ }
@@ -134,16 +164,14 @@ fn accepted(program: &[u8], fuel: u32, output: &mut [u8], work: &mut [u8]) -> Ru
     let count = records::get16(program, 2);
     let end = 4 + 6 * (types as usize);
     let start = State::start(&program[end..], count, work);
-    let last = run_steps(start, &program[4..end], fuel, work);
-    let ending = ending_of(last);
-    let written = last.write_out(&program[4..end], types, work, output);
+    let done = finish(start, &program[4..end], types, fuel, work, output);
     RunAnswer {
         number: 0,
         place: 0,
-        ending: ending,
-        steps: last.steps,
+        ending: done.ending,
+        steps: done.steps,
         root_type: root as u32,
-        written: written as u32,
+        written: done.written,
     }
 }
 

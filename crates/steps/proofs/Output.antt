@@ -90,6 +90,12 @@ module _ (table : List ℕ) (types : ℕ) (rs : List Record) (s : State) (out : 
       out-fits = record { tree = h .term; can = fits-out (h .rules) (h .term) (h .runs) }
 
       pub out-written : (out′ : List ℕ) (r : ℕ) → WritesProgram table types rs₂ 0 (w .l) out out′ r → WritesOut table types rs s out out′ r
-      out-written out′ r d = record { does = λ rules t k. rw (fits-out rules t k .size-is) (d .does t (fits-out rules t k)) }
+      out-written out′ r d =
+          let fits = fits-out (h .rules) (h .term) (h .runs) in
+          let few = runs-few (h .rules) rs s (h .term) (h .runs) in
+          record {
+            does = λ rules t k. rw (fits-out rules t k .size-is) (d .does t (fits-out rules t k));
+            short = omega (arith, d .does (h .term) fits .long, fits .size-is, h .few-types);
+          }
 
 pub ruleset putting-out = (out-settles, out-closes, out-length, out-fits, out-written)

@@ -21,8 +21,8 @@ use Rattle.zipper.specs.Moving.{IsHole, Drops}
 use Rattle.zipper.specs.Ascending.{Held}
 use Rattle.zipper.proofs.Places.{laid-few, at-start, frame-read, next-ones}
 use Rattle.contraction.specs.declared.plans.Plan.{Plan}
-use Rattle.contraction.specs.Redexes.{RedexAt, CanPlanWhole, PlansWhole}
-use Rattle.contraction.specs.Matches.{OpenMatch, CanPlanMatch, PlansMatch}
+use Rattle.contraction.specs.Redexes.{RedexAt, CanPlanWhole, TellsRule, PlansWhole}
+use Rattle.contraction.specs.Matches.{OpenMatch, HasMatch, TellsMatchRule, PlansMatch}
 use Rattle.steps.specs.declared.state.State.{State}
 use Rattle.steps.specs.Stepping.{Runs}
 use Rattle.steps.specs.Contracting.{Contracting}
@@ -71,10 +71,10 @@ module _ (types : Table) (rs : List Record) (z : Focus) (level : ℕ) (C : Conte
     whole = few-children (rootKind t) n;
   }
 
-  pub whole-contracting : (s : State) → Runs types rs s whole → NoTwins types → childCount (rootKind t) ≤ 2 → (plan : Plan) → PlansWhole rs (z .s) plan → (hole : Ahead) → IsHole z level hole
-      → Contracting types rs s plan (z .l) hole whole
+  pub whole-contracting : (s : State) → Runs types rs s whole → NoTwins types → childCount (rootKind t) ≤ 2 → (i : ℕ) → TellsRule rs (z .s) i → (plan : Plan) → PlansWhole rs (z .s) plan
+      → (hole : Ahead) → IsHole z level hole → Contracting types rs s (record { rule = i; plan = plan; free = z .l; hole = hole }) whole
   unfolding whole-at becomes
-  whole-contracting s runs unlike n plan p hole o = rw (o .is) (record {
+  whole-contracting s runs unlike n i g plan p hole o = rw (o .is) (record {
     runs = runs;
     context = C;
     contractum = made .term;
@@ -84,10 +84,9 @@ module _ (types : Table) (rs : List Record) (z : Focus) (level : ℕ) (C : Conte
     evaluation = h .evaluation;
     at-level = h .at-level;
     end = z .r;
-    replaced = made .event .replaced;
+    ruled = g .is types (z .l) (made .event .rule) (made .event .replaced) (made .term) whole-at (few-children (rootKind t) n);
     planned = p .is types (z .l) (z .r) (z .r) (made .event .rule) (made .event .replaced) (made .term) whole-at (few-children (rootKind t) n);
     placed = omega (arith, h .laid .around .start);
-    counted = refl;
     after-hole = omega (arith, h .laid .end);
     gap = h .laid .gap;
     before-right = omega arith;
@@ -135,7 +134,7 @@ module _ (types : Table) (rs : List Record) (z : Focus) (m : Match) (f : Fields)
         upto = omega (arith, g);
       }
 
-  pub open-plans : CanPlanMatch types rs (z .top) (z .r)
+  pub open-plans : HasMatch types rs (z .top) (z .r)
   open-plans = record {
     lo = z .l;
     end = z .r + size v + size e;
@@ -144,12 +143,13 @@ module _ (types : Table) (rs : List Record) (z : Focus) (m : Match) (f : Fields)
     found = open-at (z .r + size v + size e) refl;
   }
 
-  pub open-contracting : (s : State) → Runs types rs s whole → NoTwins types → (plan : Plan) → PlansMatch types rs (z .top) (z .r) plan → (hole : Ahead) → Drops rs z hole
-      → Contracting types rs s plan (z .l) hole whole
-  unfolding becomes
-  open-contracting s runs unlike plan p hole d =
+  pub open-contracting : (s : State) → Runs types rs s whole → NoTwins types → (i : ℕ) → TellsMatchRule types rs (z .top) (z .r) i → (plan : Plan) → PlansMatch types rs (z .top) (z .r) i plan
+      → (hole : Ahead) → Drops rs z hole → Contracting types rs s (record { rule = i; plan = plan; free = z .l; hole = hole }) whole
+  unfolding becomes open-at
+  open-contracting s runs unlike i b plan p hole d =
       let g = d .end (match m) f v e C q (h .laid) in
       let start = at-start rs _ C (z .s) (z .r) (z .top) (h .laid .around) in
+      let ruled = b .is (z .l) (hole .r) (chosen .event .replaced) (chosen .term) (open-at (hole .r) g) in
       record {
         runs = runs;
         context = C;
@@ -160,10 +160,9 @@ module _ (types : Table) (rs : List Record) (z : Focus) (m : Match) (f : Fields)
         evaluation = opens .evaluation;
         at-level = d .level ∙ sym l;
         end = z .r;
-        replaced = chosen .event .replaced;
-        planned = p .is (z .l) (hole .r) (chosen .event .replaced) (chosen .term) (open-at (hole .r) g);
+        ruled = ruled;
+        planned = p .is (z .l) (hole .r) (chosen .event .replaced) (chosen .term) (open-at (hole .r) g) ruled;
         placed = omega (arith, d .hole (match m) f v e C q (h .laid) .start);
-        counted = refl;
         after-hole = omega (arith, d .left, start, h .laid .end);
         gap = h .laid .gap;
         before-right = omega (arith, g);

@@ -65,11 +65,12 @@ module _ (program : List Record) (count : ℕ) (rs : List Record) (h : CanStart 
           typed = y;
         }
 
-    pub start-holds : Starts program rs′ (record { turn = Next (firstFocus (4096 - count)); stopped = false; steps = 0 })
+    pub start-holds : Starts program rs′ (record { turn = Next (firstFocus (4096 - count)); stopped = false; steps = 0; event = record { rule = 0; place = 0; replaced = 0 } })
     start-holds = record {
       holds = λ types y. record { turned = next (firstFocus (4096 - count)) [] (rootTree program) (first-held types y) (omega arith) };
       steps = refl;
       going = refl;
+      event = refl;
     }
 
 pub ruleset starting = (start-fits, start-loads, start-holds)

@@ -38,3 +38,4 @@ pub record CanWriteOut (table : List ℕ) (types : ℕ) (rs : List Record) (s : 
 
 pub record WritesOut (table : List ℕ) (types : ℕ) (rs : List Record) (s : State) (out out′ : List ℕ) (r : ℕ) : Type 0 where
   pub does : (rules : Table) (t : Term) → Runs rules rs s t → WroteProgram table types (size t) out out′ t r
+  pub short : r ≤ outputNeeded

@@ -25,8 +25,9 @@ pub record CanStart (program : List Record) (count : ℕ) (rs : List Record) : T
   pub few : count ≤ mostRecords
   pub room : 4096 ≤ length rs
 
--- The first term is held, and no step is made.
+-- The first term is held, and no step is made: the event is none's.
 pub record Starts (program rs′ : List Record) (r : State) : Type 0 where
   pub holds : (types : Table) → Typed types [] 0 (rootTree program) → HoldsTerm types rs′ r (rootTree program)
   pub steps : r .steps ≡ 0
   pub going : r .stopped ≡ false
+  pub event : r .event ≡ record { rule = 0; place = 0; replaced = 0 }

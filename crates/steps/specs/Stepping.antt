@@ -7,10 +7,12 @@ use mathlib.Core.Path.{_≡_}
 use Rattle.rules.specs.Terms.{Term, size}
 use Rattle.rules.specs.Types.{Table, NoTwins}
 use Rattle.rules.specs.Values.{value}
+use Rattle.rules.specs.Contractions.{ruleNumber}
 use Rattle.rules.specs.Steps.{Event}
 use Rattle.rules.specs.Next.{next}
 use Rattle.rules.specs.Format.{Record, mostRecords}
 use Rattle.zipper.specs.Ascending.{Sought, Turned}
+use Rattle.steps.specs.declared.events.Event.{Event as Told}
 use Rattle.steps.specs.declared.state.State.{State}
 
 -- The state holds t, which keeps the rules of its table: at a focus that is to be searched, or where the search is over.
@@ -37,6 +39,7 @@ pub record SeeksTerm (rs rs′ : List Record) (s r : State) : Type 0 where
   pub does : (types : Table) (t : Term) → HoldsTerm types rs s t → Runs types rs′ r t
   pub steps : r .steps ≡ s .steps
   pub stopped : r .stopped ≡ s .stopped
+  pub event : r .event ≡ s .event
 
 -- r is whether the term is a value.
 pub record TellsValue (s : State) (r : Bool) : Type 0 where
@@ -57,11 +60,15 @@ pub record Becomes (types : Table) (t u : Term) : Type 0 where
   pub event : Event
   pub is-next : next types 0 t ≡ some (record { event = event; term = u })
 
--- After a step from t, by whether the run is stopped: the next term has room, and the step is made; or "the next term has more than 2,048 records", and
--- no step is made.
+-- An event as a state tells it, its rule by its number.
+abbrev pub told : Event → Told
+told e = record { rule = ruleNumber (e .rule); place = e .place; replaced = e .replaced }
+
+-- After a step from t, by whether the run is stopped: the next term has room, and the step is made, whose event the state tells; or "the next term has more
+-- than 2,048 records", and no step is made.
 pub data After (types : Table) (rs′ : List Record) (s r : State) (t : Term) : Bool → Type 0 where
-  running : (u : Term) → Becomes types t u → size u ≤ mostRecords → HoldsTerm types rs′ r u → r .steps ≡ s .steps + 1 → After types rs′ s r t false
-  too-large : (u : Term) → Becomes types t u → mostRecords < size u → Runs types rs′ r t → r .steps ≡ s .steps → After types rs′ s r t true
+  running : (u : Term) (b : Becomes types t u) → size u ≤ mostRecords → HoldsTerm types rs′ r u → r .steps ≡ s .steps + 1 → r .event ≡ told (b .event) → After types rs′ s r t false
+  too-large : (u : Term) → Becomes types t u → mostRecords < size u → Runs types rs′ r t → r .steps ≡ s .steps → r .event ≡ s .event → After types rs′ s r t true
 
 pub record Stepped (types : Table) (rs rs′ : List Record) (s r : State) : Type 0 where
   pub does : (t : Term) → Runs types rs s t → After types rs′ s r t (r .stopped)

@@ -1,4 +1,5 @@
 // A run's state by value, and its step.
+use crate::events::Event;
 use crate::seeking::seek_from;
 use contraction::Plan;
 use zipper::Ahead;
@@ -16,16 +17,18 @@ const MOST: usize = rules::MOST_RECORDS as usize;
 // How many slots of the work buffer hold the term around its focus.
 const SLOTS: usize = 4096;
 
-// Where a run stands: at a focus that is to be searched, at a value, or at the record that is rewritten next. `steps` are made. It is stopped where the
-// next term has more than 2,048 records.
+// Where a run stands: at a focus that is to be searched, at a value, or at the record that is rewritten next. `steps` are made, and `event` is that of the
+// last one, all 0 before the first. It is stopped where the next term has more than 2,048 records.
 pub struct State {
     pub turn: Turn,
     pub stopped: bool,
     pub steps: u32,
+    pub event: Event,
 }
 
-// What becomes of the focus: what is planned, the first slot that is free for it, and the hole that it fills.
+// What becomes of the focus: by which rule, what is planned, the first slot that is free for it, and the hole that it fills.
 struct Aim {
+    rule: u16,
     plan: Plan,
     free: usize,
     hole: Ahead,
@@ -49,6 +52,11 @@ impl State {
             turn: Turn::Next(first),
             stopped: false,
             steps: 0,
+            event: Event {
+                rule: 0,
+                place: 0,
+                replaced: 0,
+            },
         }
     }
 
@@ -58,11 +66,13 @@ impl State {
         ensures { λ r. ⌜ SeeksTerm (recordsIn (now (work .entry))) (recordsIn (now (work .exit))) self r ⌝ }
     {
         let turn = self.turn;
+        let event = self.event;
         match turn {
             Turn::Next(a) => State {
                 turn: seek_from(work, a),
                 stopped: self.stopped,
                 steps: self.steps,
+                event,
             },
             Turn::Value(_) => self,
             Turn::Redex(_, _) => self,
@@ -78,21 +88,28 @@ impl State {
         let turn = self.turn;
         match turn {
             Turn::Redex(z, level) => Aim {
+                rule: contraction::whole_rule(work, z.s),
                 plan: contraction::plan_whole(work, z.s),
                 free: z.l,
                 hole: zipper::hole_of(z, level),
             },
-            Turn::Match(z) => Aim {
-                plan: contraction::plan_match(table, work, z.top, z.r),
-                free: z.l,
-                hole: zipper::dropped(work, z),
-            },
+            Turn::Match(z) => {
+                let rule = contraction::match_rule(table, work, z.top, z.r);
+                Aim {
+                    rule,
+                    plan: contraction::plan_match(table, work, z.top, z.r, rule),
+                    free: z.l,
+                    hole: zipper::dropped(work, z),
+                }
+            }
             Turn::Value(z) => Aim {
+                rule: 0,
                 plan: Plan::Tree(z.s, 0),
                 free: z.l,
                 hole: zipper::hole_of(z, 0),
             },
             Turn::Next(a) => Aim {
+                rule: 0,
                 plan: Plan::Tree(a.r, 0),
                 free: a.l,
                 hole: a,
@@ -100,21 +117,23 @@ impl State {
         }
     }
 
-    // Puts what the plan makes into the hole, where there is room for the next term. The slots from `free` to the right side are free.
-    fn proceed(mut self, work: &mut [u8], plan: Plan, free: usize, hole: Ahead) -> State
-        requires { ⌜ CanProceed (recordsIn (now work)) self plan free hole ⌝ }
-        ensures { λ r. ⌜ Proceeds (recordsIn (now (work .entry))) (recordsIn (now (work .exit))) self plan free hole r ⌝ }
+    // Makes what the focus becomes and puts it into the hole. There is room for it; the slots from `aim.free` to the right side are free.
+    fn proceed(self, work: &mut [u8], aim: Aim) -> State
+        requires { ⌜ CanProceed (recordsIn (now work)) self aim ⌝ }
+        ensures { λ r. ⌜ Proceeds (recordsIn (now (work .entry))) (recordsIn (now (work .exit))) self aim r ⌝ }
     {
-        if !contraction::fits(work, plan, hole.r - hole.l - MOST) {
-            self.stopped = true;
-            return self;
-        }
-        let made = contraction::make(work, plan, free);
-        let next = zipper::put_ahead(work, hole, made.at, made.size);
+        let plan = aim.plan;
+        let made = contraction::make(work, plan, aim.free);
+        let next = zipper::put_ahead(work, aim.hole, made.at, made.size);
         State {
             turn: Turn::Next(next),
             stopped: self.stopped,
             steps: self.steps + 1,
+            event: Event {
+                rule: aim.rule,
+                place: (aim.hole.l + 1) as u16,
+                replaced: made.replaced as u32,
+            },
         }
     }
 
@@ -125,7 +144,11 @@ impl State {
     {
         let aim = self.aim(table, work);
         let plan = aim.plan;
-        self.proceed(work, plan, aim.free, aim.hole)
+        if contraction::fits(work, plan, aim.hole.r - aim.hole.l - MOST) {
+            return self.proceed(work, aim);
+        }
+        self.stopped = true;
+        self
     }
 
     // Whether the term is a value.

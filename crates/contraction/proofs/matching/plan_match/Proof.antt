@@ -7,7 +7,6 @@ use Rattle.contraction.proofs.matching.plan_match.Tie as tie
 pub plan-match-spec : {M : Type 1} → statement M
 plan-match-spec =
     tie.close (tie.spec
-    (λ c κs. search (outcomes, needs))  -- matches-requires
     (λ c κs. search (outcomes, needs))  -- success-requires
     (λ c κs. search (outcomes, needs))  -- skip-requires
     (λ c. search (outcomes, needs))  -- returns

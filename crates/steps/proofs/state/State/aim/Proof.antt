@@ -8,9 +8,11 @@ pub aim-spec : {M : Type 1} → statement M
 aim-spec =
     tie.close (tie.spec
     (λ c. search (aiming, needs))  -- enum-known-turn
+    (λ c κs. search (aiming, needs))  -- whole-rule-requires
     (λ c κs. search (aiming, needs))  -- plan-whole-requires
     (λ c κs. search (aiming, needs))  -- hole-of-requires
     (λ c. search (aiming, needs))  -- enum-known-turn-2
+    (λ c κs. search (aiming, needs))  -- match-rule-requires
     (λ c κs. search (aiming, needs))  -- plan-match-requires
     (λ c κs. search (aiming, needs))  -- dropped-requires
     (λ c. search (aiming, needs))  -- enum-known-turn-3

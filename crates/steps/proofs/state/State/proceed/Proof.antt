@@ -7,14 +7,12 @@ use Rattle.steps.proofs.state.State.proceed.Tie as tie
 pub proceed-spec : {M : Type 1} → statement M
 proceed-spec =
     tie.close (tie.spec
-    (λ c. search (proceeding, needs))  -- sub-fits
-    (λ c. search (proceeding, needs))  -- sub-fits-2
-    (λ c κs. search (proceeding, needs))  -- fits-requires
-    (λ c. search (proceeding, needs))  -- same-length
-    (λ c. search (proceeding, needs))  -- returns
     (λ c κs. search (proceeding, needs))  -- make-requires
     (λ c κs. search (proceeding, needs))  -- put-ahead-requires
-    (λ c. search (proceeding, needs))  -- add-t19
-    (λ c. search (proceeding, needs))  -- same-length-2
-    (λ c. search (proceeding, needs))  -- returns-2
+    (λ c. search (proceeding, needs))  -- add-t13
+    (λ c. search (proceeding, needs))  -- add-t14
+    (λ c. search (proceeding, needs))  -- cast-t15
+    (λ c. search (proceeding, needs))  -- cast-t16
+    (λ c. search (proceeding, needs))  -- same-length
+    (λ c. search (proceeding, needs))  -- returns
     )
