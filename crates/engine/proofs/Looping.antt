@@ -6,7 +6,7 @@ use mathlib.Core.List.{List}
 use mathlib.Core.Path.{_≡_, refl, sym, subst, _∙_}
 use lib.Dec.{T}
 use Rattle.rules.specs.Terms.{Term}
-use Rattle.rules.specs.Types.{Table}
+use Rattle.rules.specs.Types.{Table, NoTwins}
 use Rattle.rules.specs.Values.{value}
 use Rattle.rules.specs.Format.{Record}
 use Rattle.rules.specs.Run.{valued, spent, full}
@@ -22,20 +22,28 @@ pub record StandsAt (types : Table) (fuel : ℕ) (first : Term) (rs : List Recor
   pub holds : HoldsTerm types rs s term
   pub stands : Running types fuel first (s .steps) term
 
--- The loop, which began with the state s₀ and the records rs₀, is at s and rs.
+-- The loop, which began with the state s₀ and the records rs₀, is at s and rs. There is a first term.
 pub record Going (types : Table) (fuel : ℕ) (rs₀ rs : List Record) (s₀ s : State) : Type 0 where
   pub going : s .stopped ≡ false
+  pub unlike : NoTwins types
+  pub counts : fuel < 2 ^ 32
+  pub first : Term
+  pub holds : HoldsTerm types rs₀ s₀ first
   pub each : (first : Term) → HoldsTerm types rs₀ s₀ first → StandsAt types fuel first rs s
 
-pub going-starts : (types : Table) (fuel : ℕ) (rs : List Record) (s : State) → CanRun types rs s → Going types fuel rs rs s s
-going-starts types fuel rs s h = record {
+pub going-starts : (types : Table) (fuel : ℕ) (rs : List Record) (s : State) → CanRun types rs s → fuel < 2 ^ 32 → Going types fuel rs rs s s
+going-starts types fuel rs s h m = record {
   going = h .going;
+  unlike = h .unlike;
+  counts = m;
+  first = h .term;
+  holds = h .holds;
   each = λ first k. record { term = first; holds = k; stands = rw (h .none) (run-starts types fuel first) };
 }
 
-module _ (types : Table) (fuel : ℕ) (rs₀ rs : List Record) (s₀ s : State) (h : CanRun types rs₀ s₀) (g : Going types fuel rs₀ rs s₀ s) where
+module _ (types : Table) (fuel : ℕ) (rs₀ rs : List Record) (s₀ s : State) (g : Going types fuel rs₀ rs s₀ s) where
   pub going-seeks : HasTerm rs s
-  going-seeks = let a = g .each (h .term) (h .holds) in record { types = types; term = a .term; holds = a .holds }
+  going-seeks = let a = g .each (g .first) (g .holds) in record { types = types; term = a .term; holds = a .holds }
 
   -- After the search.
   module _ (rs₁ : List Record) (q : State) (f : SeeksTerm rs rs₁ s q) where
@@ -49,69 +57,73 @@ module _ (types : Table) (fuel : ℕ) (rs₀ rs : List Record) (s₀ s : State) 
     kept : q .stopped ≡ false
     kept = f .stopped ∙ g .going
 
+    stops : ((first : Term) (k : HoldsTerm types rs₀ s₀ first) → Stop types fuel first (q .steps) (g .each first k .term) false) → RunsOut types fuel rs₀ rs₁ s₀ q
+    stops stop = record {
+      does = λ first k. record {
+        last = g .each first k .term;
+        runs = at-redex first k;
+        stop = subst (Stop types fuel first (q .steps) (g .each first k .term)) (sym kept) (stop first k);
+      };
+    }
+
+    pub going-spent : fuel ≤ q .steps → RunsOut types fuel rs₀ rs₁ s₀ q
+    going-spent l = stops (λ first k. by-fuel (stands first k) l)
+
     module _ (b : Bool) (v : TellsValue q b) where
       valued-at : (first : Term) (k : HoldsTerm types rs₀ s₀ first) → value (g .each first k .term) ≡ b
       valued-at first k = sym (v .is types rs₁ (g .each first k .term) (at-redex first k))
 
       pub going-value : b ≡ true → RunsOut types fuel rs₀ rs₁ s₀ q
-      going-value y = record {
-        does = λ first k. record {
-          last = g .each first k .term;
-          runs = at-redex first k;
-          stop = subst (Stop types fuel first (q .steps) (g .each first k .term)) (sym kept) (by-value (stands first k) (valued-at first k ∙ y));
-        };
+      going-value y = stops (λ first k. by-value (stands first k) (valued-at first k ∙ y))
+
+      pub going-steps : b ≡ false → q .steps < fuel → CanStep types rs₁ q
+      going-steps y l = record {
+        term = g .each (g .first) (g .holds) .term;
+        runs = at-redex (g .first) (g .holds);
+        no-value = valued-at (g .first) (g .holds) ∙ y;
+        unlike = g .unlike;
+        going = kept;
+        counts = omega (arith, g .counts);
       }
 
-      pub going-spent : fuel ≤ q .steps → RunsOut types fuel rs₀ rs₁ s₀ q
-      going-spent l = record {
-        does = λ first k. record {
-          last = g .each first k .term;
-          runs = at-redex first k;
-          stop = subst (Stop types fuel first (q .steps) (g .each first k .term)) (sym kept) (by-fuel (stands first k) l);
-        };
+    -- After the step.
+    module _ (l : q .steps < fuel) (rs₂ : List Record) (r : State) (d : Stepped types rs₁ rs₂ q r) where
+      after : (first : Term) (k : HoldsTerm types rs₀ s₀ first) → After types rs₂ q r (g .each first k .term) (r .stopped)
+      after first k = d .does (g .each first k .term) (at-redex first k)
+
+      pub going-on : r .stopped ≡ false → Going types fuel rs₀ rs₂ s₀ r
+      going-on z = record {
+        going = z;
+        unlike = g .unlike;
+        counts = g .counts;
+        first = g .first;
+        holds = g .holds;
+        each = λ first k. step first k (subst (After types rs₂ q r (g .each first k .term)) z (after first k));
       }
+        where
+          step : (first : Term) (k : HoldsTerm types rs₀ s₀ first) → After types rs₂ q r (g .each first k .term) false → StandsAt types fuel first rs₂ r
+          step first k (running u c m w e _) = record {
+            term = u;
+            holds = w;
+            stands = rw e (goes-on types fuel first (q .steps) (g .each first k .term) (stands first k) (c .event) u l (c .no-value) (c .is-next) m);
+          }
 
-      module _ (y : b ≡ false) (l : q .steps < fuel) where
-        pub going-steps : fuel < 2 ^ 32 → CanStep types rs₁ q
-        going-steps m = record {
-          term = g .each (h .term) (h .holds) .term;
-          runs = at-redex (h .term) (h .holds);
-          no-value = valued-at (h .term) (h .holds) ∙ y;
-          unlike = h .unlike;
-          going = kept;
-          counts = omega arith;
-        }
+      pub going-less : r .stopped ≡ false → fuel - r .steps < fuel - s .steps
+      going-less z = go (subst (After types rs₂ q r (g .each (g .first) (g .holds) .term)) z (after (g .first) (g .holds)))
+        where
+          go : {t : Term} → After types rs₂ q r t false → fuel - r .steps < fuel - s .steps
+          go (running u c m w e _) = omega (arith, e, f .steps)
 
-        module _ (rs₂ : List Record) (r : State) (d : Stepped types rs₁ rs₂ q r) where
-          after : (first : Term) (k : HoldsTerm types rs₀ s₀ first) → After types rs₂ q r (g .each first k .term) (r .stopped)
-          after first k = d .does (g .each first k .term) (at-redex first k)
-
-          pub going-on : r .stopped ≡ false → Going types fuel rs₀ rs₂ s₀ r
-          going-on z = record { going = z; each = λ first k. step first k (subst (After types rs₂ q r (g .each first k .term)) z (after first k)) }
-            where
-              step : (first : Term) (k : HoldsTerm types rs₀ s₀ first) → After types rs₂ q r (g .each first k .term) false → StandsAt types fuel first rs₂ r
-              step first k (running u c m w e _) = record {
-                term = u;
-                holds = w;
-                stands = rw e (goes-on types fuel first (q .steps) (g .each first k .term) (stands first k) (c .event) u l (c .no-value) (c .is-next) m);
-              }
-
-          pub going-less : r .stopped ≡ false → fuel - r .steps < fuel - s .steps
-          going-less z = go (subst (After types rs₂ q r (g .each (h .term) (h .holds) .term)) z (after (h .term) (h .holds)))
-            where
-              go : {t : Term} → After types rs₂ q r t false → fuel - r .steps < fuel - s .steps
-              go (running u c m w e _) = omega (arith, e, f .steps)
-
-          pub going-stops : r .stopped ≡ true → RunsOut types fuel rs₀ rs₂ s₀ r
-          going-stops z = record { does = λ first k. stop first k (subst (After types rs₂ q r (g .each first k .term)) z (after first k)) }
-            where
-              stop : (first : Term) (k : HoldsTerm types rs₀ s₀ first) → After types rs₂ q r (g .each first k .term) true → Stopped types fuel first rs₂ r
-              stop first k (too-large u c m w e _) = record {
-                last = g .each first k .term;
-                runs = w;
-                stop = subst (Stop types fuel first (r .steps) (g .each first k .term)) (sym z)
-                    (by-room (c .no-value) (rw e (ends-full types fuel first (q .steps) (g .each first k .term) (stands first k) (c .event) u l (c .no-value) (c .is-next) m)));
-              }
+      pub going-stops : r .stopped ≡ true → RunsOut types fuel rs₀ rs₂ s₀ r
+      going-stops z = record { does = λ first k. stop first k (subst (After types rs₂ q r (g .each first k .term)) z (after first k)) }
+        where
+          stop : (first : Term) (k : HoldsTerm types rs₀ s₀ first) → After types rs₂ q r (g .each first k .term) true → Stopped types fuel first rs₂ r
+          stop first k (too-large u c m w e _) = record {
+            last = g .each first k .term;
+            runs = w;
+            stop = subst (Stop types fuel first (r .steps) (g .each first k .term)) (sym z)
+                (by-room (c .no-value) (rw e (ends-full types fuel first (q .steps) (g .each first k .term) (stands first k) (c .event) u l (c .no-value) (c .is-next) m)));
+          }
 
 pub ruleset looping = (going-starts, going-seeks, going-value, going-spent, going-steps, going-on, going-less, going-stops)
 

@@ -1,7 +1,6 @@
 -- `engine::run_steps` meets its contract. The invariant: the run of the first term stands where the state is. The measure is the fuel that is
 -- left. Assumes nothing.
 use Prim.Native.Nat.{_-_}
-use native.Mathlib.Omega.{arith}
 use mathlib.Core.Path.{_≡_}
 use lib.ListN.{length}
 use Rattle.records.specs.View.{entriesIn, recordsIn}
@@ -26,9 +25,9 @@ run-steps-spec =
     (λ c. search (looping, needs))  -- returns
     (λ c. search (looping, needs))  -- same-length-2
     (λ c. search (looping, needs))  -- returns-2
-    (λ c κs. going-steps _ _ _ _ _ _ (c .before .before .before .before .before .before .before .before .before .before .before .before .pre) (c .before .before .before .before .before .before .before .before .before .loop .inv .1) _ _ (c .before .before .before .before .before .before .before .seek .ensures) _ (c .before .before .before .before .is-value .ensures) (c .before .before .before .if1 .left) (c .before .if2 .left) (omega arith))  -- step-requires
+    (λ c κs. let d = c .before .before .before .before in going-steps _ _ _ _ _ _ (d .before .before .before .before .before .loop .inv .1) _ _ (d .before .before .before .seek .ensures) _ (d .is-value .ensures) (c .before .before .before .if1 .left) (c .before .if2 .left))  -- step-requires
     (λ c. search (looping, needs))  -- same-length-3
-    (λ c. going-stops _ _ _ _ _ _ (c .before .before .before .before .before .before .before .before .before .before .before .before .before .before .before .before .pre) (c .before .before .before .before .before .before .before .before .before .before .before .before .before .loop .inv .1) _ _ (c .before .before .before .before .before .before .before .before .before .before .before .seek .ensures) _ (c .before .before .before .before .before .before .before .before .is-value .ensures) (c .before .before .before .before .before .before .before .if1 .left) (c .before .before .before .before .before .if2 .left) _ _ (c .before .before .before .step .ensures) (c .if3 .taken))  -- returns-3
-    (λ c. going-less _ _ _ _ _ _ (c .before .before .before .before .before .before .before .before .before .before .before .before .before .before .before .before .pre) (c .before .before .before .before .before .before .before .before .before .before .before .before .before .loop .inv .1) _ _ (c .before .before .before .before .before .before .before .before .before .before .before .seek .ensures) _ (c .before .before .before .before .before .before .before .before .is-value .ensures) (c .before .before .before .before .before .before .before .if1 .left) (c .before .before .before .before .before .if2 .left) _ _ (c .before .before .before .step .ensures) (c .if3 .left))  -- loop-less
-    (λ c. (omega (arith, c .before .before .before .step .kept), going-on _ _ _ _ _ _ (c .before .before .before .before .before .before .before .before .before .before .before .before .before .before .before .before .pre) (c .before .before .before .before .before .before .before .before .before .before .before .before .before .loop .inv .1) _ _ (c .before .before .before .before .before .before .before .before .before .before .before .seek .ensures) _ (c .before .before .before .before .before .before .before .before .is-value .ensures) (c .before .before .before .before .before .before .before .if1 .left) (c .before .before .before .before .before .if2 .left) _ _ (c .before .before .before .step .ensures) (c .if3 .left)))  -- loop-again
+    (λ c. search going-stops)  -- returns-3
+    (λ c. search going-less)  -- loop-less
+    (λ c. (search needs, search going-on))  -- loop-again
     )
