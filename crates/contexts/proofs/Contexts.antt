@@ -3,7 +3,6 @@ use Prim.Native.Nat.{ℕ, _+_}
 use native.Mathlib.Omega.{arith}
 use native.Mathlib.Nat.{zero-add, add-zero, add-assoc}
 use mathlib.Core.List.{[], _∷_, _++_}
-use mathlib.Core.Option.{some}
 use mathlib.Core.Path.{_≡_, refl, ap}
 use lib.Dec.{T, ltb→lt, lt→ltb}
 use Rattle.rules.specs.Kinds.{Kind}
@@ -11,8 +10,6 @@ use Rattle.rules.specs.Terms.{Term, rootKind, fieldsOf, size}
 use Rattle.rules.specs.Types.{Table}
 use Rattle.rules.specs.Contractions.{StepRule, Contraction}
 use Rattle.rules.specs.Steps.{stepping, stepsChild, Event, atRoot, further, here, in-child, in-first, in-second, in-first₃, in-second₃, in-third₃, Step}
-use Rattle.rules.specs.Next.{Next, inside, next}
-use Rattle.rules.proofs.Agree.{complete, agree}
 use Rattle.terms.specs.Children.{sizes}
 use Rattle.contexts.specs.Contexts.{Frame, only, first, second, first₃, second₃, third₃, fill, frameKind, frameFields, childrenBefore, holeLevel, StepsHole, Context, plug, levelAt, leftSize, Evaluation}
 
@@ -81,8 +78,3 @@ module _ (types : Table) where
   unfolding plug levelAt leftSize Evaluation
   step-plugged l [] {e} h d = rw (zero-add (e .place)) d
   step-plugged l (F ∷ C) {e} (p, h) d = rw (add-assoc (leftSize C) (1 + sizes (childrenBefore F)) (e .place)) (step-plugged l C h (step-filled (levelAt l C) F p d))
-
-  -- So the function's next term of the focus gives that of the whole term.
-  pub next-plugged : (l : ℕ) (C : Context) (t : Term) (m : Next) → Evaluation l C → next types (levelAt l C) t ≡ some m
-      → next types l (plug C t) ≡ some (inside (leftSize C) (plug C) m)
-  next-plugged l C t m h e = complete types (step-plugged l C h (agree types (levelAt l C) (m .event) t (m .term) .0 e))

@@ -1,17 +1,16 @@
--- A step is a contraction in an evaluation context, and the other way round. A term has one place for it, and its focus has that place or is done.
+-- A step is a contraction in an evaluation context, and the other way round. A term has one place for it.
 use Prim.Native.Nat.{ℕ, _+_}
 use native.Mathlib.Omega.{arith}
 use native.Mathlib.Nat.{zero-add}
 use mathlib.Core.List.{[], _∷_, _++_}
 use mathlib.Core.Bool.{false}
-use mathlib.Core.Logic.{_⊎_}
 use mathlib.Core.Option.{some}
 use mathlib.Core.Path.{_≡_, refl, sym, ap, _∙_}
 use lib.Dec.{T}
 use Rattle.rules.specs.Terms.{Term, rootKind}
 use Rattle.rules.specs.Types.{Table, NoTwins}
 use Rattle.rules.specs.Typing.{Typed}
-use Rattle.rules.specs.Values.{value, done}
+use Rattle.rules.specs.Values.{value}
 use Rattle.rules.specs.Contractions.{StepRule, Contraction, contracts}
 use Rattle.rules.specs.Steps.{Event, atRoot, further, here, Step}
 use Rattle.rules.specs.Next.{Next, next}
@@ -23,7 +22,7 @@ use Rattle.contexts.specs.Contexts.{childrenBefore, Context, plug, level
 use Rattle.contexts.specs.Moving.{Ready}
 use Rattle.contexts.specs.Focused.{Focused}
 use Rattle.contexts.proofs.Contexts.{plug-append, level-append, left-append, evaluation-append, by-frames, step-plugged}
-use Rattle.contexts.proofs.Moving.{done-or-steps, ready-redex}
+use Rattle.contexts.proofs.Moving.{ready-redex}
 use Rattle.contexts.proofs.Inside.{levels-low, later-inside, typed-inside}
 
 module _ {types : Table} where
@@ -61,10 +60,6 @@ module _ {types : Table} where
 
 -- The focus of a term that keeps the rules.
 module _ (types : Table) (C : Context) (t : Term) (v : Evaluation 0 C) (h : Typed types [] 0 (plug C t)) where
-  -- It is done or makes a step, which is the whole term's.
-  pub focus-steps : T (done (levelAt 0 C) t) ⊎ ((m : Next) × Step types (levelAt 0 C) (m .event) t (m .term))
-  focus-steps = done-or-steps types (levelAt 0 C) (bindersAt 0 [] C) t (levels-low 0 C (omega arith)) (later-inside 0 [] C v tt) (typed-inside types 0 [] C t h)
-
   -- It is rewritten, where the children that it steps are done and its kind is one that is rewritten.
   pub focus-contracts : Ready (levelAt 0 C) t → T (contracts (levelAt 0 C) (rootKind t)) → (m : Next) × Contraction types (levelAt 0 C) (m .event .rule) (m .event .replaced) t (m .term)
   focus-contracts = ready-redex types (levelAt 0 C) (bindersAt 0 [] C) t (levels-low 0 C (omega arith)) (later-inside 0 [] C v tt) (typed-inside types 0 [] C t h)

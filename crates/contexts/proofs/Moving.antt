@@ -1,7 +1,7 @@
--- Where the focus is done: its frame's record steps the next child, or is rewritten itself, or is done. Without a frame the whole term is a value.
+-- Where the focus is done: its frame's record steps the next child, or is rewritten itself, or is done.
 use Prim.Native.Nat.{ℕ, zero, suc, _≤_}
 use native.Mathlib.Omega.{arith}
-use mathlib.Core.List.{[], _∷_}
+use mathlib.Core.List.{_∷_}
 use mathlib.Core.Bool.{not}
 use mathlib.Core.Path.{_≡_, refl, ap}
 use mathlib.Core.Logic.{_⊎_, inl, inr, ⊎-elim}
@@ -92,11 +92,6 @@ pub onward : (l : ℕ) (F : Frame) (t : Term) → StepsHole l F → T (done (hol
 onward l F t p d = tested {A = Unit {0}} (λ _. Onward l F t) (stepsChild l (frameKind F) (suc (holeNumber F))) tt tt
     (λ s. moves (moved-on l F t p d s))
     (λ n. let r = ready l F t p d n in tested {A = Unit {0}} (λ _. Onward l F t) (contracts l (frameKind F)) tt tt (contracted r) (λ c. ended (frame-done l F t p r c)))
-
--- No frame is left, and the focus is done: the whole term is a value.
-pub whole-value : (t : Term) → T (done (levelAt 0 []) t) → T (value (plug [] t))
-unfolding plug levelAt
-whole-value t d = d
 
 -- What is done isn't of a kind that is rewritten at its level.
 pub done-stays : (l : ℕ) (t : Term) → T (done l t) → T (contracts l (rootKind t)) → ⊥

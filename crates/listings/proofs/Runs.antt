@@ -47,11 +47,11 @@ ending-range full = omega arith
 -- The answer does not depend on how long the buffers are, if they are long enough.
 answer-same : (p : List ℕ) (fuel o w : ℕ) → outputNeeded ≤ o → workNeeded ≤ w → runAnswer firstEdition p fuel o w ≡ runAnswer firstEdition p fuel outputNeeded workNeeded
 unfolding runAnswer
-answer-same p fuel o w room halves =
-    let n = buffers-long p o w room halves ∙ sym (buffers-long p outputNeeded workNeeded (omega arith) (omega arith)) in
+answer-same p fuel o w room slots =
+    let n = buffers-long p o w room slots ∙ sym (buffers-long p outputNeeded workNeeded (omega arith) (omega arith)) in
     ap (λ (q : Option Refusal). elim q [ none ↦ accepted (tableOf p) (programCourse p fuel) | some r ↦ refused (r .number) (r .place) ]) n
 
-module _ (p : List ℕ) (fuel : ℕ) (out work : List ℕ) (room : outputNeeded ≤ length out) (halves : workNeeded ≤ length work) where
+module _ (p : List ℕ) (fuel : ℕ) (out work : List ℕ) (room : outputNeeded ≤ length out) (slots : workNeeded ≤ length work) where
   abbrev last : Term
   last = programCourse p fuel .last
 
@@ -62,14 +62,14 @@ module _ (p : List ℕ) (fuel : ℕ) (out work : List ℕ) (room : outputNeeded 
   module _ (a : RunAnswer) (out′ work′ : List ℕ) (ran : Ran p fuel out work a out′ work′) where
     text-is : answerText (runMeant a) bytes ≡ runText p fuel
     unfolding runText
-    text-is = ap (λ x. answerText x bytes) (ran .answer ∙ answer-same p fuel (length out) (length work) room halves)
+    text-is = ap (λ x. answerText x bytes) (ran .answer ∙ answer-same p fuel (length out) (length work) room slots)
 
     pub run-refused : (a .number ≡ 0 → ⊥) → refusedText (a .number) (a .place) ≡ runText p fuel
     run-refused n = rw (ne-eqb (a .number) 0 n) at text-is
 
     answer-refused : (q : Refusal) → refusal firstEdition p ≡ some q → runMeant a ≡ refused (q .number) (q .place)
     unfolding runAnswer
-    answer-refused q e = rw (buffers-long p (length out) (length work) room halves ∙ e, runAnswer) at (ran .answer)
+    answer-refused q e = rw (buffers-long p (length out) (length work) room slots ∙ e, runAnswer) at (ran .answer)
 
     run-passed : a .number ≡ 0 → refusal firstEdition p ≡ none
     run-passed z = go (refusal firstEdition p) refl (refusal-numbered firstEdition p)
@@ -82,7 +82,7 @@ module _ (p : List ℕ) (fuel : ℕ) (out work : List ℕ) (room : outputNeeded 
       accepted-run : Accepted p fuel out out′ a
       unfolding runAnswer runOutput
       accepted-run =
-          let n = buffers-long p (length out) (length work) room halves ∙ run-passed z in
+          let n = buffers-long p (length out) (length work) room slots ∙ run-passed z in
           record { answer = rw (n, runAnswer) at (ran .answer); output = rw (n, runOutput) at (ran .output) }
 
       m : Meets firstEdition p

@@ -15,10 +15,11 @@ use Rattle.rules.specs.Steps.{stepping}
 use Rattle.rules.proofs.KindTable.{kind-back}
 use Rattle.terms.specs.Children.{kids}
 use Rattle.terms.specs.Preorder.{At}
-use Rattle.terms.proofs.Trees.{kids-there, first-tree, later-trees}
+use Rattle.terms.specs.Measuring.{KindIs}
+use Rattle.terms.proofs.Trees.{kind-read, kids-there, first-tree, later-trees}
 use Rattle.redexes.specs.declared.Found.{Found}
 use Rattle.redexes.specs.declared.Found.the-variants.{Done, Redex}
-use Rattle.redexes.specs.Finding.{orElse, searched, orHere, find, KindAt}
+use Rattle.redexes.specs.Finding.{orElse, searched, orHere, find}
 use Rattle.redexes.proofs.Ends.{EndsAt, ends}
 
 -- The tree t at i, where the root's first child is at level m and b tells whether the root is rewritten: by the number of children that the root
@@ -62,9 +63,9 @@ case rs i (binary application f t u) h = two t u (first-there rs i _ t _ refl h)
 case rs i (ternary (match k) f t s e) h = one t (first-there rs i _ t _ refl h) (omega arith) (rewritten-after (find 0 t (i + 1)) i)
 
 -- The kind that was read is the root's.
-module _ (rs : List Record) (i k : ℕ) (a : KindAt rs i k) (t : Term) (h : At rs i t) where
+module _ (rs : List Record) (i k : ℕ) (a : KindIs rs i k) (t : Term) (h : At rs i t) where
   pub kind-seen : kindOf k ≡ rootKind t
-  kind-seen = ap kindOf (a .is t h) ∙ kind-back (rootKind t)
+  kind-seen = ap kindOf (a .is ∙ kind-read rs i t h) ∙ kind-back (rootKind t)
 
   pub seen : Case rs i t (firstLevel (kindOf k) 0) (contracts 0 (kindOf k)) (stepping 0 (kindOf k))
   seen = rw kind-seen (case rs i t h)

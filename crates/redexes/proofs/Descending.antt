@@ -17,10 +17,12 @@ use Rattle.rules.specs.Steps.{stepping}
 use Rattle.records.specs.View.{recordsIn}
 use Rattle.records.proofs.Records.{records-length}
 use Rattle.terms.specs.Preorder.{At, HasTree, Skips}
+use Rattle.terms.specs.Measuring.{KindIs}
 use Rattle.terms.proofs.Trees.{at-first, size-read}
+use Rattle.terms.proofs.Readings.{tree-first}
 use Rattle.redexes.specs.declared.Found.{Found}
 use Rattle.redexes.specs.declared.Found.the-variants.{Done, Redex}
-use Rattle.redexes.specs.Finding.{orElse, orHere, find, KindAt, Finds}
+use Rattle.redexes.specs.Finding.{orElse, orHere, find, Finds}
 use Rattle.redexes.specs.Descent.{HasUnwritten, HasRewritten, LastAt, LastStepped, before, last}
 use Rattle.redexes.proofs.Ends.{done-ends}
 use Rattle.redexes.proofs.Cases.{Case, none, one, two, kind-seen, seen}
@@ -133,7 +135,7 @@ module _ (rs : List Record) (i : ℕ) (h : HasUnwritten rs i) where
   rest-in : i < length rs
   rest-in = at-first rs i (h .tree) (h .there)
 
-  module _ (k : ℕ) (a : KindAt rs i k) (l : ℕ) (q : l ≡ firstLevel (kindOf k) 0) where
+  module _ (k : ℕ) (a : KindIs rs i k) (l : ℕ) (q : l ≡ firstLevel (kindOf k) 0) where
     unwritten : contracts 0 (kindOf k) ≡ false
     unwritten = ap (contracts 0) (kind-seen rs i k a (h .tree) (h .there)) ∙ h .stays
 
@@ -176,10 +178,10 @@ pub record Down (rs : List Record) (i at root : ℕ) (any : Bool) (t : Term) : T
   pub same : find 0 t i ≡ orHere (find 0 child at) any root
 
 pub record Descending (rs : List Record) (i at root : ℕ) (any : Bool) (k : ℕ) : Type 0 where
-  pub kind : KindAt rs at k
+  pub kind : KindIs rs at k
   pub down : (t : Term) → At rs i t → Down rs i at root any t
 
-pub down-starts : (rs : List Record) (i k : ℕ) → KindAt rs i k → Descending rs i i i false k
+pub down-starts : (rs : List Record) (i k : ℕ) → KindIs rs i k → Descending rs i i i false k
 down-starts rs i k a = record { kind = a; down = λ t h. record { child = t; there = h; inside = omega arith; same = sym (here-none (find 0 t i) i) } }
 
 module _ (rs : List Record) (i at root : ℕ) (any : Bool) (k : ℕ) (d : Descending rs i at root any k) (h : HasTree rs i) where
@@ -224,7 +226,7 @@ module _ (rs : List Record) (i at root : ℕ) (any : Bool) (k : ℕ) (d : Descen
       pub down-shortens : getD rs n noRecord .first < getD rs at noRecord .first
       down-shortens = let s = stepped (held .child) (held .there) in inside-falls rs at (held .child) (held .there) (record { tree = s .child; there = s .there; fewer = s .fewer })
 
-      pub down-goes-on : (k′ : ℕ) → KindAt rs n k′ → Descending rs i n at true k′
+      pub down-goes-on : (k′ : ℕ) → KindIs rs n k′ → Descending rs i n at true k′
       down-goes-on k′ a = record {
         kind = a;
         down = λ t b.
@@ -239,4 +241,4 @@ module _ (rs : List Record) (i at root : ℕ) (any : Bool) (k : ℕ) (d : Descen
       }
 
 pub ruleset descending =
-    (stepped-child, stepped-two, stepped-one, stepped-falls, stepped-place-fits, rest-tree, rest-falls, rest-child, rest-quote, rest-done, rest-place-fits, down-starts, down-rewritten, down-rests, down-falls, down-ends, down-found, down-tree, down-shortens, down-goes-on)
+    (tree-first, stepped-child, stepped-two, stepped-one, stepped-falls, stepped-place-fits, rest-tree, rest-falls, rest-child, rest-quote, rest-done, rest-place-fits, down-starts, down-rewritten, down-rests, down-falls, down-ends, down-found, down-tree, down-shortens, down-goes-on)

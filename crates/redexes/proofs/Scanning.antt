@@ -22,12 +22,13 @@ use Rattle.records.proofs.Records.{records-length}
 use Rattle.terms.specs.Children.{kids, sizes, preorders}
 use Rattle.terms.proofs.Children.{sizes-append, count-sizes, kids-count, kids-sizes}
 use Rattle.terms.specs.Preorder.{preorder, There, At, HasTree, Skips}
-use Rattle.terms.specs.Measuring.{PlainIs}
+use Rattle.terms.specs.Measuring.{KindIs, PlainIs}
 use Rattle.terms.proofs.There.{there-both}
+use Rattle.terms.proofs.Readings.{tree-first}
 use Rattle.terms.proofs.Trees.{length-preorders, preorders-append, at-first, size-read, at-within, kids-there, first-tree, later-trees}
 use Rattle.redexes.specs.declared.Found.{Found}
 use Rattle.redexes.specs.declared.Found.the-variants.{Done, Redex}
-use Rattle.redexes.specs.Finding.{orElse, searched, orHere, find, KindAt, Finds, SpliceBelow, SpliceAt, FindsSplice, splice-there, no-splice}
+use Rattle.redexes.specs.Finding.{orElse, searched, orHere, find, Finds, SpliceBelow, SpliceAt, FindsSplice, splice-there, no-splice}
 use Rattle.redexes.proofs.Ends.{EndsAt, ends, done-found}
 use Rattle.redexes.proofs.Cases.{root-after, first-there, kind-seen}
 
@@ -173,7 +174,7 @@ module _ (rs : List Record) (i at p : ℕ) (s : Scanning rs i at p) where
     pub scan-shortens-past : (d : ℕ) → Skips rs at d → i + getD rs i noRecord .first - d < i + getD rs i noRecord .first - at
     scan-shortens-past d k = omega (arith, size-read rs i (s .some .tree) (s .some .there), k .is (held .tree) (held .there), held .place, size-some (held .tree))
 
-    module _ (k : ℕ) (a : KindAt rs at k) where
+    module _ (k : ℕ) (a : KindIs rs at k) where
       pub scan-stops : (b : Bool) → b ≡ contracts 1 (kindOf k) → b ≡ true → FindsSplice rs i (Redex at)
       scan-stops b e y = splice-there at (λ t h.
           let q = ahead t h in
@@ -229,7 +230,7 @@ module _ (s : List ℕ) (i at p : ℕ) (k : Scanning (recordsIn s) i at p) (z : 
   pub scan-place-fits : Fits w64 (at + 1)
   scan-place-fits = omega (arith, scan-count _ _ _ _ k, records-length s)
 
-pub ruleset scanning = (scan-starts, scan-tree, scan-stops, scan-enters, scan-passes, scan-shortens, scan-shortens-past, scan-counts, scan-place-fits, scan-ends)
+pub ruleset scanning = (tree-first, scan-starts, scan-tree, scan-stops, scan-enters, scan-passes, scan-shortens, scan-shortens-past, scan-counts, scan-place-fits, scan-ends)
 
 -- `find1`, by what `first_splice` tells.
 module _ (rs : List Record) (i p : ℕ) (x : Found) (f : FindsSplice rs i x) (e : x ≡ Redex p) where

@@ -10,7 +10,8 @@ use Rattle.rules.specs.Format.{Record}
 use Rattle.terms.specs.Preorder.{At}
 use Rattle.redexes.specs.declared.Found.{Found}
 use Rattle.redexes.specs.declared.Found.the-variants.{Done, Redex}
-use Rattle.redexes.specs.Finding.{orHere, find, KindAt, Finds}
+use Rattle.terms.specs.Measuring.{KindIs}
+use Rattle.redexes.specs.Finding.{orHere, find, Finds}
 
 -- A tree stands at i whose root isn't rewritten at level 0.
 pub record HasUnwritten (rs : List Record) (i : ℕ) : Type 0 where
@@ -22,7 +23,7 @@ pub record HasUnwritten (rs : List Record) (i : ℕ) : Type 0 where
 pub record HasRewritten (rs : List Record) (i k : ℕ) : Type 0 where
   pub tree : Term
   pub there : At rs i tree
-  pub kind : KindAt rs i k
+  pub kind : KindIs rs i k
   pub rewritten : contracts 0 (kindOf k) ≡ true
 
 -- The root of t, at i, steps the child at e last: what is found in t is what is found in that child, or else the root.

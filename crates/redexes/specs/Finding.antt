@@ -3,7 +3,7 @@ use Prim.Native.Nat.{ℕ, _+_, _≤_}
 use mathlib.Core.Path.{_≡_}
 use mathlib.Core.List.{List}
 use mathlib.Core.Bool.{Bool, _&&_, not}
-use Rattle.rules.specs.Kinds.{splice, unary₁, binary₂, ternary₃, kindNumber, kindOf}
+use Rattle.rules.specs.Kinds.{splice, unary₁, binary₂, ternary₃, kindOf}
 use Rattle.rules.specs.Lists.{pick}
 use Rattle.rules.specs.Terms.{Fields, Term, leaf, unary, binary, ternary, rootKind, size}
 use Rattle.rules.specs.Format.{Record}
@@ -47,10 +47,6 @@ find l (ternary k f t s e) i =
     searched (stepsChild l (ternary₃ k) 0) (find l t (i + 1))
     (searched (stepsChild l (ternary₃ k) 1) (find l s (i + 1 + size t))
     (searched (stepsChild l (ternary₃ k) 2) (find l e (i + 1 + size t + size s)) (rootFound l (ternary k f t s e) i)))
-
--- k is the number of the kind of the record at i.
-pub record KindAt (rs : List Record) (i k : ℕ) : Type 0 where
-  pub is : (t : Term) → At rs i t → k ≡ kindNumber (rootKind t)
 
 -- A tree stands at i, and the level is 0 or 1.
 pub record CanFind (rs : List Record) (i l : ℕ) : Type 0 where

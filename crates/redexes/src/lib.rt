@@ -2,22 +2,13 @@
 ghost use mathlib.Core.Path.{_≡_};
 ghost use Rattle.records.specs.View.{recordsIn};
 ghost use Rattle.terms.specs.Preorder.{HasTree};
-ghost use Rattle.redexes.specs.Finding.{orHere, KindAt, CanFind, Finds, SpliceBelow, FindsSplice};
+ghost use Rattle.redexes.specs.Finding.{orHere, CanFind, Finds, SpliceBelow, FindsSplice};
 ghost use Rattle.redexes.specs.Descent.{HasUnwritten, HasRewritten, LastStepped};
 
 // What a search of a tree finds: nothing to step, and the place after the tree; or the place of the record that the rules rewrite.
 pub enum Found {
     Done(usize),
     Redex(usize),
-}
-
-// The kind of the record at `i`.
-fn kind_at(w: &[u8], i: usize) -> u16
-    requires { ⌜ HasTree (recordsIn (now w)) i ⌝ }
-    ensures { λ r. ⌜ KindAt (recordsIn (now (w .entry))) i r ⌝ }
-{
-    let r = records::get(w, i);
-    r.kind
 }
 
 // What was found inside a tree, or where that is nothing and the record at `i` is rewritten, that record.
@@ -41,7 +32,7 @@ fn find_at_rest(w: &[u8], i: usize) -> Found
     requires { ⌜ HasUnwritten (recordsIn (now w)) i ⌝ }
     ensures { λ r. ⌜ Finds 0 (recordsIn (now (w .entry))) i r ⌝ }
 {
-    if rules::first_level(kind_at(w, i), 0) == 1 {
+    if rules::first_level(terms::kind_at(w, i), 0) == 1 {
         return find1(w, i + 1);
     }
     Found::Done(terms::skip(w, i))
@@ -68,7 +59,7 @@ fn find0(w: &[u8], i: usize) -> Found
     let mut at = i;
     let mut passed = i;
     let mut any = false;
-    let mut kind = kind_at(w, i);
+    let mut kind = terms::kind_at(w, i);
     while rules::contracts_at_zero(kind) {
         match last_stepped(w, at, kind) {
             Found::Redex(p) => {
@@ -80,7 +71,7 @@ fn find0(w: &[u8], i: usize) -> Found
                 at = e;
             }
         }
-        kind = kind_at(w, at);
+        kind = terms::kind_at(w, at);
     }
     or_here(find_at_rest(w, at), any, passed)
 }
@@ -105,7 +96,7 @@ fn first_splice(w: &[u8], i: usize) -> Found
     let mut at = i;
     let mut pending: usize = 1;
     while 0 < pending {
-        let kind = kind_at(w, at);
+        let kind = terms::kind_at(w, at);
         if rules::contracts_at_one(kind) {
             return Found::Redex(at);
         }

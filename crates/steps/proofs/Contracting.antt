@@ -1,5 +1,5 @@
 -- `State::proceed`: the contractum fills the hole, and the state tells the event. `proceeding` for search.
-use Prim.Native.Nat.{ℕ, _+_, _≤_}
+use Prim.Native.Nat.{_+_, _≤_}
 use native.Mathlib.Omega.{arith}
 use mathlib.Core.List.{List, []}
 use mathlib.Core.Logic.{inl, inr, ⊎-elim}
@@ -24,7 +24,7 @@ use Rattle.contraction.specs.declared.making.Block.{Block}
 use Rattle.contraction.specs.Making.{Makes, CanMake, Made, MakesBlock}
 use Rattle.steps.specs.declared.state.State.{State}
 use Rattle.steps.specs.declared.state.Aim.{Aim}
-use Rattle.steps.specs.Stepping.{told, After, running}
+use Rattle.steps.specs.Stepping.{After, running}
 use Rattle.steps.specs.Contracting.{Contracting, Roomy, CanProceed, Proceeds}
 use Rattle.steps.proofs.Values.{runs-few}
 

@@ -123,15 +123,16 @@ impl State {
         ensures { λ r. ⌜ Proceeds (recordsIn (now (work .entry))) (recordsIn (now (work .exit))) self aim r ⌝ }
     {
         let plan = aim.plan;
+        let hole = aim.hole;
         let made = contraction::make(work, plan, aim.free);
-        let next = zipper::put_ahead(work, aim.hole, made.at, made.size);
+        let next = zipper::put_ahead(work, hole, made.at, made.size);
         State {
             turn: Turn::Next(next),
             stopped: self.stopped,
             steps: self.steps + 1,
             event: Event {
                 rule: aim.rule,
-                place: (aim.hole.l + 1) as u16,
+                place: (hole.l + 1) as u16,
                 replaced: made.replaced as u32,
             },
         }

@@ -9,7 +9,6 @@ pub mod Closing
 pub mod Wholes
 pub mod Opening
 pub mod Bringing
-pub mod Redexes
 pub mod Downward
 pub mod Filling
 pub mod Turns

@@ -22,7 +22,7 @@ use Rattle.redexes.proofs.last_stepped.Reads as last-stepped
 use Rattle.redexes.proofs.last_stepped.Kinds as last-stepped-kinds
 use Rattle.redexes.proofs.+find0+find1+find_at_rest+last_stepped.Lts-last_stepped as last-stepped-lts
 use Rattle.redexes.proofs.first_splice.Reads as first-splice-reads
-use Rattle.redexes.proofs.kind_at.Reads as kind-at-reads
+use Rattle.terms.proofs.kind_at.Reads as kind-at-reads
 use Rattle.redexes.proofs.or_here.Reads as or-here-reads
 use Rattle.rules.proofs.contracts_at_zero.Reads as contracts-at-zero-reads
 use Rattle.rules.proofs.first_level.Reads as first-level-reads
