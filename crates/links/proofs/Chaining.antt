@@ -13,8 +13,8 @@ use Rattle.rules.specs.Check.{children, childrenRule}
 use Rattle.rules.proofs.Tree.{first-le}
 use Rattle.records.specs.declared.Record.{Record as Read}
 use Rattle.records.specs.Places.{IsRecord, InChain, Follows}
-use Rattle.links.specs.Chains.{GoodLinks, Parent, ChainTested}
-use Rattle.records.proofs.Placing.{within-next}
+use Rattle.links.specs.Chains.{GoodLinks, Parent}
+use Rattle.records.proofs.Placing.{within-next, next-in-chain}
 
 -- What a number of children asks of the chain.
 module _ (c s e x : ℕ) where
@@ -43,23 +43,6 @@ module _ (c s e x : ℕ) where
   three-asked (binary₂ k) z o t = absurd (t refl)
   three-asked (ternary₃ k) z o t = ap (λ y. ltb 0 c && (ltb 0 s && (ltb 0 e && y))) (sym (and-true (eqb x 0)))
 
-module _ (count c s e x : ℕ) where
-  pub tested-none : count ≡ 0 → ChainTested count c s e x (eqb c 0)
-  tested-none h = record { is = λ k g. none-asked c s e x k (sym h ∙ g) }
-
-  pub tested-one : (r : Bool) → count ≡ 1 → r ≡ ltb 0 c && eqb s 0 → ChainTested count c s e x r
-  tested-one r h p = record { is = λ k g. p ∙ one-asked c s e x k (sym h ∙ g) }
-
-  pub tested-two : (r q : Bool) → count ≡ 2 → q ≡ ltb 0 s && eqb e 0 → r ≡ ltb 0 c && q → ChainTested count c s e x r
-  tested-two r q h o p = record { is = λ k g. p ∙ ap (_&&_ (ltb 0 c)) o ∙ two-asked c s e x k (sym h ∙ g) }
-
-  pub tested-three : (r q o : Bool) → (count ≡ 0 → ⊥) → (count ≡ 1 → ⊥) → (count ≡ 2 → ⊥)
-      → o ≡ ltb 0 e && eqb x 0 → q ≡ ltb 0 s && o → r ≡ ltb 0 c && q → ChainTested count c s e x r
-  tested-three r q o z y w i j p = record {
-    is = λ k g.
-        p ∙ ap (_&&_ (ltb 0 c)) (j ∙ ap (_&&_ (ltb 0 s)) i) ∙ three-asked c s e x k (λ h. z (g ∙ h)) (λ h. y (g ∙ h)) (λ h. w (g ∙ h));
-  }
-
 module _ (rs : List Record) where
   -- The chain of a record's children.
   first-is : (n : ℕ) (r : Read) → Parent rs n → IsRecord rs n r → r .first ≡ firstOf rs n
@@ -67,6 +50,9 @@ module _ (rs : List Record) where
 
   pub first-in-chain : (n : ℕ) (r : Read) → Parent rs n → IsRecord rs n r → InChain rs (r .first)
   first-in-chain n r p e = record { good = p .good; most = rw (first-is n r p e) (first-le rs n) }
+
+  pub last-in-chain : (n s e : ℕ) (r : Read) → Follows rs s e → Follows rs (r .first) s → IsRecord rs n r → Parent rs n → InChain rs e
+  last-in-chain n s e r j i q p = next-in-chain rs s e (next-in-chain rs (r .first) s (first-in-chain n r p q) i) j
 
   pub parent-next : (n count : ℕ) → GoodLinks rs count → n < count → Parent rs (n + 1)
   parent-next n count l h = record { good = l .good; within = within-next rs n count (l .records) h }
@@ -78,14 +64,32 @@ module _ (rs : List Record) where
       let e = nextOf rs s in
       holds (children (kindOf kind) c s e (nextOf rs e))
 
-  pub children-told : (n count s e x : ℕ) (r : Read) (b : Bool) → Parent rs n → IsRecord rs n r
-      → Follows rs (r .first) s → Follows rs s e → Follows rs e x → count ≡ childCount (kindOf (r .kind))
-      → ChainTested count (r .first) s e x b → b ≡ holds (childrenRule rs n)
-  children-told n count s e x r b p q i j k h t =
-      let c = r .first in
-      let es : s ≡ nextOf rs c = i .is in
-      let ee : e ≡ nextOf rs (nextOf rs c) = j .is ∙ ap (nextOf rs) es in
-      let ex : x ≡ nextOf rs (nextOf rs (nextOf rs c)) = k .is ∙ ap (nextOf rs) ee in
-      t .is (kindOf (r .kind)) h ∙ (λ z. holds (children (kindOf (r .kind)) c (es z) (ee z) (ex z))) ∙ ap₂ kept (ap (λ y. y .kind) (q .is)) (first-is n r p q)
+  -- Record n, with the kind's number of children: that is told by its chain, as far as that number asks.
+  module _ (n count : ℕ) (r : Read) (p : Parent rs n) (q : IsRecord rs n r) (h : count ≡ childCount (kindOf (r .kind))) where
+    read : kept (r .kind) (r .first) ≡ holds (childrenRule rs n)
+    read = ap₂ kept (ap (λ y. y .kind) (q .is)) (first-is n r p q)
 
-pub ruleset chaining = (tested-none, tested-one, tested-two, tested-three, first-in-chain, parent-next, children-told)
+    pub none-told : count ≡ 0 → eqb (r .first) 0 ≡ holds (childrenRule rs n)
+    none-told o = none-asked _ _ _ _ (kindOf (r .kind)) (sym o ∙ h) ∙ read
+
+    module _ (s : ℕ) (i : Follows rs (r .first) s) where
+      pub one-told : (b : Bool) → count ≡ 1 → b ≡ ltb 0 (r .first) && eqb s 0 → b ≡ holds (childrenRule rs n)
+      one-told b o g = g ∙ ap (λ y. ltb 0 (r .first) && eqb y 0) (i .is) ∙ one-asked _ _ _ _ (kindOf (r .kind)) (sym o ∙ h) ∙ read
+
+      module _ (e : ℕ) (j : Follows rs s e) where
+        second : e ≡ nextOf rs (nextOf rs (r .first))
+        second = j .is ∙ ap (nextOf rs) (i .is)
+
+        pub two-told : (b y : Bool) → count ≡ 2 → y ≡ ltb 0 s && eqb e 0 → b ≡ ltb 0 (r .first) && y → b ≡ holds (childrenRule rs n)
+        two-told b y o g f = f ∙ ap (_&&_ (ltb 0 (r .first))) (g ∙ ap₂ (λ u v. ltb 0 u && eqb v 0) (i .is) second) ∙ two-asked _ _ _ _ (kindOf (r .kind)) (sym o ∙ h) ∙ read
+
+        pub three-told : (x : ℕ) → Follows rs e x → (b y z : Bool) → (count ≡ 0 → ⊥) → (count ≡ 1 → ⊥) → (count ≡ 2 → ⊥)
+            → z ≡ ltb 0 e && eqb x 0 → y ≡ ltb 0 s && z → b ≡ ltb 0 (r .first) && y → b ≡ holds (childrenRule rs n)
+        three-told x k b y z o₀ o₁ o₂ d g f =
+            let third : x ≡ nextOf rs (nextOf rs (nextOf rs (r .first))) = k .is ∙ ap (nextOf rs) second in
+            f
+            ∙ ap (_&&_ (ltb 0 (r .first))) (g ∙ ap₂ (λ u v. ltb 0 u && v) (i .is) (d ∙ ap₂ (λ u v. ltb 0 u && eqb v 0) second third))
+            ∙ three-asked _ _ _ _ (kindOf (r .kind)) (λ w. o₀ (h ∙ w)) (λ w. o₁ (h ∙ w)) (λ w. o₂ (h ∙ w))
+            ∙ read
+
+pub ruleset chaining = (first-in-chain, parent-next, none-told, one-told, two-told, three-told)

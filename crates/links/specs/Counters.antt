@@ -24,17 +24,8 @@ pub record Uncounted (rs : List Record) (count : ℕ) (counts : List ℕ) : Type
   pub room : count ≤ length counts
   pub zero : (k : ℕ) → getD counts k 0 ≡ 0
 
--- Each record has a counter, and the links are counted. Counters past those of the records are 0, as no link names more.
-pub record Counted (rs : List Record) (counts : List ℕ) : Type 0 where
-  pub room : length rs ≤ length counts
-  pub at : (k : ℕ) → getD counts k 0 ≡ naming rs (k + 1)
-
--- The links of `count` records are counted.
-pub record CanScan (rs : List Record) (count : ℕ) (counts : List ℕ) : Type 0 where
-  pub limited : Limited rs count
-  pub counted : Counted rs counts
-
--- The links of `count` records are counted, and there is a record n among them.
+-- There is a record n among `count` records, and the links that name it are counted.
 pub record CanJudge (rs : List Record) (count : ℕ) (counts : List ℕ) (n : ℕ) : Type 0 where
   pub among : Among rs count n
-  pub counted : Counted rs counts
+  pub room : n ≤ length counts
+  pub counted : getD counts (n - 1) 0 ≡ naming rs n

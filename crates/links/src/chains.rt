@@ -5,33 +5,31 @@ ghost use Rattle.rules.specs.Refusals.{badChildren, lowest};
 ghost use Rattle.rules.specs.Check.{childrenRule};
 ghost use Rattle.records.specs.View.{recordsIn};
 ghost use Rattle.refusals.specs.Tells.{Tells};
-ghost use Rattle.links.specs.Chains.{GoodLinks, Parent, ChainTested};
+ghost use Rattle.links.specs.Chains.{GoodLinks, Parent};
 use refusals::Verdict;
 use rules::both;
 
-// Whether the chain c, s, e, x, in which 0 is no record, has `count` records.
-fn chain_ok(count: u16, c: u16, s: u16, e: u16, x: u16) -> bool
-    ensures { λ r. ⌜ ChainTested count c s e x r ⌝ }
-{
-    match count {
-        0 => c == 0,
-        1 => both(0 < c, s == 0),
-        2 => both(0 < c, both(0 < s, e == 0)),
-        _ => both(0 < c, both(0 < s, both(0 < e, x == 0))),
-    }
-}
-
-// Whether record n has as many children as its kind asks.
+// Whether record n has as many children as its kind asks. No more of the chain is read than that.
 fn children_ok(records: &[u8], n: u16) -> bool
     requires { ⌜ Parent (recordsIn (now records)) n ⌝ }
     ensures { λ r. ⌜ r ≡ holds (childrenRule (recordsIn (now (records .entry))) n) ⌝ }
 {
     let r = records::record_no(records, n);
+    let count = rules::children(r.kind);
     let c = r.first;
+    if count == 0 {
+        return c == 0;
+    }
     let s = records::next_of(records, c);
+    if count == 1 {
+        return both(0 < c, s == 0);
+    }
     let e = records::next_of(records, s);
+    if count == 2 {
+        return both(0 < c, both(0 < s, e == 0));
+    }
     let x = records::next_of(records, e);
-    chain_ok(rules::children(r.kind), c, s, e, x)
+    both(0 < c, both(0 < s, both(0 < e, x == 0)))
 }
 
 // Refusal 9: the lowest record with a wrong number of children.

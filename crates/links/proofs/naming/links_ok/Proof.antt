@@ -8,9 +8,10 @@ pub links-ok-spec : {M : Type 1} → statement M
 links-ok-spec =
     tie.close (tie.spec
     (λ c κs. search (judging, needs))  -- record-no-requires
-    (λ c κs. search (judging, needs))  -- names-of-requires
+    (λ c κs. search (judging, needs))  -- link-ok-requires
     (λ c. search (judging, needs))  -- returns
     (λ c. search (judging, needs))  -- returns-2
+    (λ c κs. search (judging, needs))  -- link-ok-requires-2
     (λ c. search (judging, needs))  -- returns-3
     (λ c. search (judging, needs))  -- sub-i
     (λ c. search (judging, needs))  -- cast-i
