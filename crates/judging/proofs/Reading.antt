@@ -1,5 +1,5 @@
 -- What the judging reads: an entry of the table by its number, and a binder of the stack by its index. `reading` for search.
-use Prim.Native.Nat.{ℕ, zero, suc, _-_, _/_, _%_, _≤_, _<_}
+use Prim.Native.Nat.{ℕ, zero, suc, _-_, _*_, _/_, _%_, _≤_, _<_}
 use native.Mathlib.Omega.{arith}
 use mathlib.Core.Path.{_≡_, refl, sym, ap, _∙_}
 use mathlib.Core.List.{List, _∷_}
@@ -17,10 +17,10 @@ module _ (s : List ℕ) (n : ℕ) where
   pub zero-no-entry : n ≡ 0 → IsEntry (entriesIn s) n (record { kind = 0; a = 0; b = 0 })
   zero-no-entry e = record { is = rw e }
 
-  pub no-entry-beyond : length s / 6 < n → IsEntry (entriesIn s) n (record { kind = 0; a = 0; b = 0 })
+  pub no-entry-beyond : length s < 6 * n → IsEntry (entriesIn s) n (record { kind = 0; a = 0; b = 0 })
   no-entry-beyond h = record { is = sym (List·getD-eq-default (noEntry ∷ entriesIn s) noEntry {n = n} (omega (arith, entries-length s))) }
 
-  pub entry-there : (n ≡ 0 → ⊥) → n ≤ length s / 6 → Within (entriesIn s) n
+  pub entry-there : (n ≡ 0 → ⊥) → 6 * n ≤ length s → Within (entriesIn s) n
   entry-there z h = record { some = omega arith; most = omega (arith, entries-length s) }
 
 -- The binders of the stack: how many, and each by its index.

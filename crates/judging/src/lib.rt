@@ -24,7 +24,7 @@ struct Binder {
 fn entry_if_any(table: &[u8], n: u16) -> records::Entry
     ensures { λ r. ⌜ IsEntry (entriesIn (now (table .entry))) n r ⌝ }
 {
-    if n == 0 || table.len() / 6 < (n as usize) {
+    if n == 0 || table.len() < 6 * (n as usize) {
         return records::Entry {
             kind: 0,
             a: 0,
