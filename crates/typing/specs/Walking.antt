@@ -1,9 +1,11 @@
 -- What the walk asks and answers.
-use Prim.Native.Nat.{ℕ, _+_, _*_, _≤_}
+use Prim.Native.Nat.{ℕ, _+_, _*_, _/_, _%_, _≤_, _<_}
 use mathlib.Core.Path.{_≡_}
 use mathlib.Core.List.{List}
 use mathlib.Core.Option.{Option, none}
+use lib.Dec.{ltb}
 use lib.ListN.{length}
+use Rattle.rules.specs.Lists.{pick}
 use Rattle.rules.specs.Terms.{size}
 use Rattle.rules.specs.Types.{Table}
 use Rattle.rules.specs.Typing.{Env}
@@ -11,10 +13,10 @@ use Rattle.rules.specs.Format.{Record, recordNo, mostRecords}
 use Rattle.rules.specs.Links.{firstOf, treeOf}
 use Rattle.rules.specs.Refusals.{Refusal, badLink, badChildren, lowest}
 use Rattle.rules.specs.Check.{linksRule, childrenRule, typeNo, walked}
+use Rattle.refusals.specs.declared.Verdict.{Verdict}
 use Rattle.refusals.specs.Tells.{Tells}
 use Rattle.judging.specs.Stack.{stack}
 use Rattle.judging.specs.Judging.{judged}
-use Rattle.typing.specs.declared.Walked.{Walked}
 use Rattle.typing.specs.Reading.{CanRead, secondOf, thirdOf}
 
 -- Record n is judged by what the records say of it and of its children.
@@ -25,18 +27,29 @@ judgedAt types rs Γ l n = judged types Γ l n (recordNo rs n) (typeNo rs (first
 abbrev pub treeSize : List Record → ℕ → ℕ
 treeSize rs n = size (treeOf (length rs) rs n)
 
--- The tree of record n can be walked: 9 passes the records, those left are enough for the tree, and the stack has room for two binders of each.
+-- What the walk says in one number: below 65,536 nothing is refused, and it is how many records are left; else it holds a refusal.
+unfoldable pub verdictIn : ℕ → Verdict
+verdictIn q = pick (ltb q 65536) (record { number = 0; place = 0 }) (record { number = q / 65536; place = q % 65536 })
+
+-- q holds the refusal v.
+pub record Packs (v : Verdict) (q : ℕ) : Type 0 where
+  pub holds : verdictIn q ≡ v
+  pub refused : 65536 ≤ q
+
+-- The tree of record n can be walked: 9 passes the records, those left are enough for the tree and no more than a program has, and the stack
+-- has room for two binders of each.
 pub record CanWalk (rs : List Record) (bs : List ℕ) (depth n left : ℕ) : Type 0 where
   pub here : CanRead rs n
   pub chained : lowest (childrenRule rs) badChildren 1 (length rs) ≡ none
   pub enough : treeSize rs n ≤ left
+  pub most : left ≤ mostRecords
   pub room : depth + 2 * left ≤ length bs
 
 -- The verdict is that on the first faulty record in preorder of the tree of record n. Where nothing is refused, the records left after the tree
 -- and those of the tree are the records left before it. The binders below the depth are kept.
-pub record Walks (types : Table) (rs : List Record) (bs bs′ : List ℕ) (depth level n left : ℕ) (q : Walked) : Type 0 where
-  pub tells : Tells (q .verdict) (walked (length rs) types rs (stack bs depth) level n)
-  pub counted : q .verdict .number ≡ 0 → q .left + treeSize rs n ≡ left
+pub record Walks (types : Table) (rs : List Record) (bs bs′ : List ℕ) (depth level n left q : ℕ) : Type 0 where
+  pub tells : Tells (verdictIn q) (walked (length rs) types rs (stack bs depth) level n)
+  pub counted : q < 65536 → q + treeSize rs n ≡ left
   pub kept : stack bs′ depth ≡ stack bs depth
 
 -- The records of a whole program, `count` of them, make one tree: 8 and 9 pass them.

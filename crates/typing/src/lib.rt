@@ -2,6 +2,7 @@
 // tree with the records left as the falling number. The binders over a record stand in a lent array, used as a stack: what is below the depth
 // is kept.
 ghost use mathlib.Core.List.{[], _∷_};
+ghost use mathlib.Core.Path.{_≡_};
 ghost use Prim.Native.Nat.{_+_, _<_, _≤_};
 ghost use lib.ListN.{length};
 ghost use Rattle.rules.specs.Check.{walked};
@@ -11,7 +12,7 @@ ghost use Rattle.judging.specs.Stack.{stack};
 ghost use Rattle.typing.specs.Reading.{CanRead, IsType, IsThird};
 ghost use Rattle.typing.specs.Pushing.{Pushes, PushesFirst, PushesSecond};
 ghost use Rattle.typing.specs.Entering.{CanEnter, EntersFirst, EntersSecond};
-ghost use Rattle.typing.specs.Walking.{judgedAt, CanWalk, Walks, MakeTree};
+ghost use Rattle.typing.specs.Walking.{judgedAt, verdictIn, Packs, CanWalk, Walks, MakeTree};
 
 // A child of a record, where its tree is walked: its number, its level, and the depth of the binders over it.
 struct Child {
@@ -20,10 +21,32 @@ struct Child {
     depth: usize,
 }
 
-// What the walk over a tree says: the verdict on it, and how many records are left after it where nothing is refused.
-struct Walked {
-    verdict: refusals::Verdict,
-    left: u16,
+// What the walk over a tree says is one number, which is handed back in a register: below this how many records are left after the tree, where
+// nothing is refused; else a refusal, its number times this and its place.
+const REFUSED: u32 = 65536;
+
+// A refusal as one number.
+fn packed(v: refusals::Verdict) -> u32
+    requires { ⌜ 1 ≤ v .number ⌝ }
+    ensures { λ q. ⌜ Packs v q ⌝ }
+{
+    REFUSED * (v.number as u32) + (v.place as u32)
+}
+
+// The verdict that such a number holds.
+fn verdict_in(q: u32) -> refusals::Verdict
+    ensures { λ v. ⌜ v ≡ verdictIn q ⌝ }
+{
+    if q < REFUSED {
+        return refusals::Verdict {
+            number: 0,
+            place: 0,
+        };
+    }
+    refusals::Verdict {
+        number: (q / REFUSED) as u16,
+        place: (q % REFUSED) as u16,
+    }
 }
 
 // The written type of record n; 0 for no record.
@@ -131,9 +154,9 @@ fn third_child(records: &[u8], n: u16) -> u16
     records::next_of(records, s)
 }
 
-// The first fault in the tree of record n, which stands at this level under the binders below the depth. `left` is how many records are left, and
-// enough for the tree: where it is 0 no tree is entered. The first child's tree gets all but n, the second's what the first's leaves, the third's
-// what that leaves.
+// The first fault in the tree of record n, which stands at this level under the binders below the depth, or how many records are left after it, as
+// one number. `left` is how many records are left, and enough for the tree: where it is 0 no tree is entered. The first child's tree gets all but n,
+// the second's what the first's leaves, the third's what that leaves.
 fn walk(
     table: &[u8],
     records: &[u8],
@@ -142,23 +165,21 @@ fn walk(
     level: u16,
     n: u16,
     left: u16,
-) -> Walked
+) -> u32
     requires { ⌜ CanWalk (recordsIn (now records)) (now binders) depth n left ⌝ }
     ensures { λ q. ⌜ Walks (entriesIn (now (table .entry))) (recordsIn (now (records .entry))) (now (binders .entry)) (now (binders .exit)) depth level n left q ⌝ }
 {
-    let here = Walked {
-        verdict: own_refusal(table, records, binders, depth, level, n),
-        left: left - 1,
-    };
-    if here.verdict.number != 0 {
-        return here;
+    let own = own_refusal(table, records, binders, depth, level, n);
+    if own.number != 0 {
+        return packed(own);
     }
+    let rest = left - 1;
     let c = first_child(records, binders, depth, level, n);
     if c.n == 0 {
-        return here;
+        return rest as u32;
     }
-    let first = walk(table, records, binders, c.depth, c.level, c.n, here.left);
-    if first.verdict.number != 0 {
+    let first = walk(table, records, binders, c.depth, c.level, c.n, rest);
+    if REFUSED <= first {
         return first;
     }
     let s = second_child(records, binders, depth, level, n);
@@ -166,14 +187,14 @@ fn walk(
         return first;
     }
     let e = third_child(records, n);
-    let second = walk(table, records, binders, s.depth, s.level, s.n, first.left);
-    if second.verdict.number != 0 {
+    let second = walk(table, records, binders, s.depth, s.level, s.n, first as u16);
+    if REFUSED <= second {
         return second;
     }
     if e == 0 {
         return second;
     }
-    walk(table, records, binders, depth, level, e, second.left)
+    walk(table, records, binders, depth, level, e, second as u16)
 }
 
 // The first fault in the tree of record 1, the root, at level 0 under no binders. A small program has a small stack, which is sooner cleared.
@@ -183,10 +204,8 @@ pub fn types_refusal(table: &[u8], records: &[u8], count: u16) -> refusals::Verd
 {
     if count <= 64 {
         let mut few = [0u32; 128];
-        let small = walk(table, records, &mut few, 0, 0, 1, count);
-        return small.verdict;
+        return verdict_in(walk(table, records, &mut few, 0, 0, 1, count));
     }
     let mut binders = [0u32; 4096];
-    let large = walk(table, records, &mut binders, 0, 0, 1, count);
-    large.verdict
+    verdict_in(walk(table, records, &mut binders, 0, 0, 1, count))
 }

@@ -1,6 +1,7 @@
 -- `walk` meets its contract. The measure is how many records are left. What the calls showed is gathered where the checks so far have passed:
 -- `own-passed`, `first-passed` and `second-passed`, each of which the needs after it cite.
 use Prim.Native.Nat.{ℕ, _-_, _<_}
+use native.Mathlib.Omega.{arith}
 use mathlib.Core.List.{List}
 use mathlib.Core.Option.{Option}
 use borrow.Author.Needs.{needs}
@@ -13,7 +14,6 @@ use Rattle.rules.specs.Links.{firstOf}
 use Rattle.rules.specs.Refusals.{Refusal}
 use Rattle.records.specs.View.{entriesIn, recordsIn}
 use Rattle.judging.specs.Stack.{stack}
-use Rattle.typing.specs.declared.Walked.{Walked}
 use Rattle.typing.specs.Reading.{secondOf, thirdOf}
 use Rattle.typing.proofs.WalkedBy.{fromFirst, fromSecond, fromThird}
 use Rattle.typing.proofs.WalkLaws.{WalkedSoFar, passes-own, passes-first, passes-second, walking}
@@ -22,6 +22,7 @@ use Rattle.typing.proofs.walk.Kinds as walk-kinds
 use Rattle.typing.proofs.+walk.Lts-walk as walk-lts
 use Rattle.typing.proofs.first_child.Reads as first-child-reads
 use Rattle.typing.proofs.own_refusal.Reads as own-refusal-reads
+use Rattle.typing.proofs.packed.Reads as packed-reads
 use Rattle.typing.proofs.second_child.Reads as second-child-reads
 use Rattle.typing.proofs.third_child.Reads as third-child-reads
 use Rattle.typing.proofs.+walk.{statement}
@@ -37,7 +38,7 @@ abbrev walk-below : ℕ → In 3 walk-kinds.ps
 walk-below t = and 3 walk-kinds.ps (falls 3 walk-kinds.ps _<_ μ-walk t) walk.Pre
 
 abbrev walk-claims : ℕ → walk-lts.Claims
-walk-claims t = (own-refusal-reads.Asked, own-refusal-reads.Learnt, first-child-reads.Asked, first-child-reads.Learnt, walk-below t, walk.Post, second-child-reads.Asked, second-child-reads.Learnt, third-child-reads.Asked, third-child-reads.Learnt)
+walk-claims t = (own-refusal-reads.Asked, own-refusal-reads.Learnt, packed-reads.Asked, packed-reads.Learnt, first-child-reads.Asked, first-child-reads.Learnt, walk-below t, walk.Post, second-child-reads.Asked, second-child-reads.Learnt, third-child-reads.Asked, third-child-reads.Learnt)
 
 -- The places where the record's own checks have passed, the tree of its first child, and that of its second; and from each the one before it.
 module _ (t : ℕ) where
@@ -51,13 +52,13 @@ module _ (t : ℕ) where
   Second = walk-lts.Else5 (walk-claims t) (walk-at t) walk.Post
 
   abbrev own-of : First → Own
-  own-of c = c .before .before .before .before .before .before .before .before .before .before .before .before
+  own-of c = c .before .before .before .before .before .before .before .before .before .before .before
 
   abbrev first-of : Second → First
-  first-of c = c .before .before .before .before .before .before .before .before .before .before .before .before .before
+  first-of c = c .before .before .before .before .before .before .before .before .before .before .before .before
 
   -- How far the walk has come there.
-  abbrev Come : Own → List ℕ → Walked → (List Record → ℕ → ℕ) → (Table → List Record → Env → ℕ → ℕ → Option Refusal) → Type 0
+  abbrev Come : Own → List ℕ → ℕ → (List Record → ℕ → ℕ) → (Table → List Record → Env → ℕ → ℕ → Option Refusal) → Type 0
   Come c bs q child rest =
       let a = c .before .before .before .before .before .before .before .args in
       let types = entriesIn (a .table .now) in
@@ -66,49 +67,53 @@ module _ (t : ℕ) where
 
 own-passed : (t : ℕ) (c : Own t) →
     let start = c .before .before .before .before .before .before .before in
-    Come t c (start .args .binders .now) (record { verdict = c .before .before .own-refusal .result; left = start .args .left - 1 }) firstOf fromFirst
+    Come t c (start .args .binders .now) (start .args .left - 1) firstOf fromFirst
 own-passed t c =
     let start = c .before .before .before .before .before .before .before in
     passes-own _ _ _ _ _ _ _ _ (c .before .before .own-refusal .ensures) (start .pre .1) t (c .if1 .left) (start .pre .0)
 
 first-passed : (t : ℕ) (c : First t) →
-    let w = c .before .before .before .before .walk in
+    let w = c .before .before .before .walk in
     Come t (own-of t c) (w .last .1 .1 .0) (w .result) secondOf fromSecond
 first-passed t c =
-    let there = c .before .before .before .before .before .before in
-    passes-first _ _ _ _ _ _ _ _ _ _ (own-passed t (own-of t c)) _ (there .before .before .before .before .first-child .ensures) (there .if2 .left) _ _ (c .before .before .before .before .walk .ensures) (c .if3 .left)
+    let there = c .before .before .before .before .before in
+    passes-first _ _ _ _ _ _ _ _ _ _ (own-passed t (own-of t c)) _ (there .before .before .before .before .first-child .ensures) (there .if2 .left) _ _ (c .before .before .before .walk .ensures) (omega (arith, c .if3 .left))
     (search needs) (search needs)
 
 second-passed : (t : ℕ) (c : Second t) →
-    let w = c .before .before .before .before .walk2 in
+    let w = c .before .before .before .walk2 in
     Come t (own-of t (first-of t c)) (w .last .1 .1 .0) (w .result) thirdOf fromThird
 second-passed t c =
-    let there = c .before .before .before .before .before .before .before in
-    passes-second _ _ _ _ _ _ _ _ _ _ _ (first-passed t (first-of t c)) _ (there .before .before .before .before .second-child .ensures) (there .if4 .left) _ _ (c .before .before .before .before .walk2 .ensures) (c .if5 .left)
+    let there = c .before .before .before .before .before .before in
+    passes-second _ _ _ _ _ _ _ _ _ _ _ (first-passed t (first-of t c)) _ (there .before .before .before .before .second-child .ensures) (there .if4 .left) _ _ (c .before .before .before .walk2 .ensures) (omega (arith, c .if5 .left))
     (search needs) (search needs)
 
 pub +walk-spec : {M : Type 1} → statement M
 +walk-spec = close μ-walk
     (λ t. walk-lts.spec (walk-claims t) (walk-at t) walk.Post
     (λ c κs. search (walking, needs))  -- own-refusal-requires
-    (λ c. search (walking, needs))  -- sub-here
+    (λ c κs. search (walking, needs))  -- packed-requires
     (λ c. search (walking, needs))  -- same-length
     (λ c. search (walking, needs))  -- returns
+    (λ c. search (walking, needs))  -- sub-rest
     (λ c κs. search (walking, needs, own-passed t (c .before)))  -- first-child-requires
+    (λ c. search (walking, needs))  -- cast-result
     (λ c. search (walking, needs))  -- same-length-2
     (λ c. search (walking, needs, own-passed t (c .before .before .before .before .before .before)))  -- returns-2
     (λ c κs. search (walking, needs, own-passed t (c .before .before .before .before .before .before .before)))  -- walk-requires
     (λ c. search (walking, needs))  -- same-length-3
-    (λ c. search (walking, needs, own-passed t (c .before .before .before .before .before .before .before .before .before .before .before .before)))  -- returns-3
+    (λ c. search (walking, needs, own-passed t (c .before .before .before .before .before .before .before .before .before .before .before)))  -- returns-3
     (λ c κs. search (walking, needs, first-passed t (c .before)))  -- second-child-requires
     (λ c. search (walking, needs))  -- same-length-4
     (λ c. search (walking, needs, first-passed t (c .before .before .before .before .before .before)))  -- returns-4
     (λ c κs. search (walking, needs, first-passed t (c .before .before .before .before .before .before)))  -- third-child-requires
+    (λ c. search (walking, needs))  -- cast-walk
     (λ c κs. search (walking, needs, first-passed t (c .before .before .before .before .before .before .before .before)))  -- walk-requires-2
-    (λ c. search (walking, needs, first-passed t (c .before .before .before .before .before .before .before .before .before .before .before .before .before)))  -- same-length-5
-    (λ c. search (walking, needs, first-passed t (c .before .before .before .before .before .before .before .before .before .before .before .before .before)))  -- returns-5
+    (λ c. search (walking, needs, first-passed t (c .before .before .before .before .before .before .before .before .before .before .before .before)))  -- same-length-5
+    (λ c. search (walking, needs, first-passed t (c .before .before .before .before .before .before .before .before .before .before .before .before)))  -- returns-5
     (λ c. search (walking, needs, second-passed t (c .before)))  -- same-length-6
     (λ c. search (walking, needs, second-passed t (c .before)))  -- returns-6
+    (λ c. search (walking, needs))  -- cast-walk-2
     (λ c κs. search (walking, needs, second-passed t (c .before .before)))  -- walk-requires-3
     (λ c. search (walking, needs, second-passed t (c .before .before .before .before .before)))  -- same-length-7
     (λ c. search (walking, needs, second-passed t (c .before .before .before .before .before)))  -- returns-7

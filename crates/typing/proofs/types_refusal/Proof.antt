@@ -10,8 +10,10 @@ types-refusal-spec =
     tie.close (tie.spec
     (λ c. search needs)  -- slice-aggregate-walk
     (λ c κs. root-asked _ _ _ (c .before .before .before .before .pre) (omega arith))  -- walk-requires
+    (λ c κs. search needs)  -- verdict-in-requires
     (λ c. search (root-told, needs))  -- returns
     (λ c. search needs)  -- slice-aggregate-walk-2
     (λ c κs. root-asked _ _ _ (c .before .before .before .before .pre) (omega (arith, c .before .before .before .before .pre .most)))  -- walk-requires-2
+    (λ c κs. search needs)  -- verdict-in-requires-2
     (λ c. search (root-told, needs))  -- returns-2
     )
