@@ -47,6 +47,7 @@ pub fn check(program: &[u8]) -> Result<Passed, Refusal> {
 
 /// Runs a program of any bytes with the fuel. Output beyond the written length stays, and both buffers do where the run is refused.
 /// The first 65,536 bytes of the work buffer are then free.
+#[inline]
 pub fn run(program: &[u8], fuel: u32, output: &mut [u8], work: &mut [u8]) -> Result<Ran, Refusal> {
     // SAFETY: each pointer and length are those of a slice; the two that are written are borrowed mutably, and so are apart from all others.
     let answer = unsafe {
