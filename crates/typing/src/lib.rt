@@ -197,7 +197,8 @@ fn walk(
     walk(table, records, binders, depth, level, e, second as u16)
 }
 
-// The first fault in the tree of record 1, the root, at level 0 under no binders. A small program has a small stack, which is sooner cleared.
+// The first fault in the tree of record 1, the root, at level 0 under no binders. A smaller program has a smaller stack, which is sooner
+// cleared.
 pub fn types_refusal(table: &[u8], records: &[u8], count: u16) -> refusals::Verdict
     requires { ⌜ MakeTree (recordsIn (now records)) count ⌝ }
     ensures { λ q. ⌜ Tells q (walked count (entriesIn (now (table .entry))) (recordsIn (now (records .entry))) [] 0 1) ⌝ }
@@ -205,6 +206,10 @@ pub fn types_refusal(table: &[u8], records: &[u8], count: u16) -> refusals::Verd
     if count <= 64 {
         let mut few = [0u32; 128];
         return verdict_in(walk(table, records, &mut few, 0, 0, 1, count));
+    }
+    if count <= 512 {
+        let mut some = [0u32; 1024];
+        return verdict_in(walk(table, records, &mut some, 0, 0, 1, count));
     }
     let mut binders = [0u32; 4096];
     verdict_in(walk(table, records, &mut binders, 0, 0, 1, count))

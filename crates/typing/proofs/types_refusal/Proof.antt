@@ -13,7 +13,11 @@ types-refusal-spec =
     (λ c κs. search needs)  -- verdict-in-requires
     (λ c. search (root-told, needs))  -- returns
     (λ c. search needs)  -- slice-aggregate-walk-2
-    (λ c κs. root-asked _ _ _ (c .before .before .before .before .pre) (omega (arith, c .before .before .before .before .pre .most)))  -- walk-requires-2
+    (λ c κs. root-asked _ _ _ (c .before .before .before .before .before .pre) (omega arith))  -- walk-requires-2
     (λ c κs. search needs)  -- verdict-in-requires-2
     (λ c. search (root-told, needs))  -- returns-2
+    (λ c. search needs)  -- slice-aggregate-walk-3
+    (λ c κs. root-asked _ _ _ (c .before .before .before .before .before .pre) (omega (arith, c .before .before .before .before .before .pre .most)))  -- walk-requires-3
+    (λ c κs. search needs)  -- verdict-in-requires-3
+    (λ c. search (root-told, needs))  -- returns-3
     )
