@@ -2,23 +2,23 @@
 ghost use mathlib.Core.Path.{_≡_};
 ghost use lib.ListN.{length};
 ghost use Rattle.rules.specs.Conditions.{holds};
-ghost use Rattle.rules.specs.Meant.{editionMeant};
+ghost use Rattle.kinds.specs.Meant.{editionMeant};
 ghost use Rattle.rules.specs.Check.{countsRule, refusalOf, refusal};
 ghost use Rattle.records.specs.View.{entriesIn, recordsIn};
 ghost use Rattle.refusals.specs.Tells.{Tells};
 ghost use Rattle.checker.specs.Limits.{InLimits};
+use kinds::Edition;
+use kinds::both;
+use kinds::in_range;
 use refusals::Verdict;
-use rules::Edition;
-use rules::both;
-use rules::in_range;
 
 // Whether both counts are within their limits.
 fn counts_ok(types: u16, count: u16) -> bool
     ensures { λ r. ⌜ r ≡ holds (countsRule types count) ⌝ }
 {
     both(
-        in_range(1, types as u32, rules::MOST_TYPES as u32),
-        in_range(1, count as u32, rules::MOST_RECORDS as u32),
+        in_range(1, types as u32, kinds::MOST_TYPES as u32),
+        in_range(1, count as u32, kinds::MOST_RECORDS as u32),
     )
 }
 

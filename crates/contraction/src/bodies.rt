@@ -38,7 +38,7 @@ pub fn body_with_tree(w: &[u8], at: usize, arg: usize) -> Plan
 {
     if terms::bound_at(w, at) == 1 {
         let kind = terms::kind_at(w, at);
-        if rules::children(kind) == 0 {
+        if kinds::children(kind) == 0 {
             return Plan::Tree(arg, 1);
         }
     }

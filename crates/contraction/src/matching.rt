@@ -36,7 +36,7 @@ fn matches(table: &[u8], w: &[u8], p: usize) -> bool
     let r = records::get(w, p);
     let code = records::get(w, p + 2);
     let kind = r.kind;
-    if code.kind != rules::sought_kind(kind) {
+    if code.kind != kinds::sought_kind(kind) {
         return false;
     }
     match kind {

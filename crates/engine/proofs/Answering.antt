@@ -7,9 +7,9 @@ use mathlib.Core.Path.{_≡_, refl, sym, ap, _∙_}
 use lib.ListN.{length, take, drop, length-append, length-drop}
 use lib.Seq.{length-take-le, drop-at}
 use borrow.Author.Tests.{lt-ltb, le-ltb}
-use Rattle.rules.specs.declared.editions.Edition.{Edition}
+use Rattle.kinds.specs.declared.editions.Edition.{Edition}
 use Rattle.rules.specs.Editions.{firstEdition}
-use Rattle.rules.specs.Meant.{editionMeant}
+use Rattle.kinds.specs.Meant.{editionMeant}
 use Rattle.rules.specs.Conditions.{atLeast}
 use Rattle.rules.specs.Refusals.{Refusal, outputShort, workShort, unless, _then_}
 use Rattle.rules.specs.Check.{refusal}

@@ -5,9 +5,9 @@ use mathlib.Core.List.{List}
 use mathlib.Core.Option.{Option, none, some}
 use mathlib.Core.Path.{_≡_, sym, ap, ap₂, _∙_}
 use lib.ListN.{length, getD, take, drop}
-use Rattle.rules.specs.declared.editions.Edition.{Edition}
+use Rattle.kinds.specs.declared.editions.Edition.{Edition}
 use Rattle.rules.specs.Editions.{firstEdition}
-use Rattle.rules.specs.Meant.{editionMeant}
+use Rattle.kinds.specs.Meant.{editionMeant}
 use Rattle.rules.specs.Format.{noRecord, typeCount, recordCount, recordsOf}
 use Rattle.rules.specs.Refusals.{Refusal}
 use Rattle.rules.specs.Check.{typeNo, passing, failing, refusal, checkAnswer}

@@ -30,7 +30,7 @@ pub struct CheckAnswer {
 pub fn check(program: &[u8]) -> CheckAnswer
     ensures { λ r. ⌜ checkMeant r ≡ checkAnswer firstEdition (now (program .entry)) ⌝ }
 {
-    let verdict = checker::program_refusal(program, rules::first_edition());
+    let verdict = checker::program_refusal(program, kinds::first_edition());
     if verdict.number != 0 {
         return CheckAnswer {
             number: verdict.number as u32,
@@ -185,7 +185,7 @@ pub fn run(program: &[u8], fuel: u32, output: &mut [u8], work: &mut [u8]) -> Run
     if work.len() < WORK {
         return refusing(refusals::WORK_SHORT, 0);
     }
-    let verdict = checker::program_refusal(program, rules::first_edition());
+    let verdict = checker::program_refusal(program, kinds::first_edition());
     let number = verdict.number;
     if number != 0 {
         return refusing(number, verdict.place);

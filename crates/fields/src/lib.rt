@@ -5,7 +5,7 @@ ghost use lib.ListN.{length};
 ghost use lib.Dec.{eqb};
 ghost use Rattle.rules.specs.Conditions.{between, sameEntry, met, holds};
 ghost use Rattle.rules.specs.Format.{recordNo};
-ghost use Rattle.rules.specs.Meant.{editionMeant};
+ghost use Rattle.kinds.specs.Meant.{editionMeant};
 ghost use Rattle.rules.specs.Refusals.{badEntry, badField, lowest};
 ghost use Rattle.rules.specs.Check.{kindRule, alike, entryRule, fieldsRule};
 ghost use Rattle.records.specs.View.{entriesIn, recordsIn};
@@ -16,12 +16,12 @@ ghost use Rattle.fields.specs.Sizes.{Sized};
 ghost use Rattle.fields.specs.Fields.{FieldTested, FieldsTested};
 ghost use Rattle.fields.specs.BitSets.{Inserted};
 ghost use Rattle.fields.specs.Noting.{CanNote, Notes, CanScanTable};
+use kinds::Edition;
+use kinds::both;
+use kinds::in_range;
 use records::Entry;
 use records::Record;
 use refusals::Verdict;
-use rules::Edition;
-use rules::both;
-use rules::in_range;
 
 // Whether two entries are the same.
 fn same_entry(x: Entry, y: Entry) -> bool
@@ -166,9 +166,9 @@ fn fields_ok(types: u16, r: Record, edition: Edition) -> bool
     let kind = r.kind;
     let known = in_range(1, kind as u32, edition.last_kind as u32);
     let ty = in_range(1, r.ty as u32, types as u32);
-    let a = field_ok(rules::use_of_a(kind), types, r.a as u32);
-    let b = field_ok(rules::use_of_b(kind), types, r.b as u32);
-    let value = field_ok(rules::use_of_value(kind), types, r.value);
+    let a = field_ok(kinds::use_of_a(kind), types, r.a as u32);
+    let b = field_ok(kinds::use_of_b(kind), types, r.b as u32);
+    let value = field_ok(kinds::use_of_value(kind), types, r.value);
     both(known, both(ty, both(a, both(b, value))))
 }
 

@@ -7,7 +7,7 @@ use mathlib.Core.Path.{_≡_, refl, sym, ap, _∙_}
 use Rattle.rules.specs.Lists.{listed}
 use Rattle.rules.specs.Kinds.{number, leaf₀, kindNumber, highestKind, numbered, kindOf}
 use Rattle.rules.proofs.General.{_&_}
-use Rattle.rules.proofs.KindRanges.{in-range, number-back, unknown-kind}
+use Rattle.kinds.proofs.KindRanges.{in-range, number-back, unknown-kind}
 use Rattle.judging.specs.Tests.{IsMatch}
 
 -- A number that is not one of 2 to 14 stands for kind 1, and one of them that is none of 2 to 8 is a match's.

@@ -10,7 +10,7 @@ use Rattle.rules.specs.Types.{Table, partA}
 use Rattle.rules.specs.Conditions.{holds}
 use Rattle.rules.specs.Typing.{Env, binder, typed}
 use Rattle.rules.proofs.General.{_&_}
-use Rattle.rules.proofs.KindRanges.{in-range}
+use Rattle.kinds.proofs.KindRanges.{in-range}
 use Rattle.records.specs.declared.Entry.{Entry}
 use Rattle.records.specs.declared.Record.{Record}
 use Rattle.records.specs.Places.{IsEntry}

@@ -12,7 +12,7 @@ ghost use Rattle.refusals.specs.Tells.{Tells};
 ghost use Rattle.judging.specs.Stack.{stack};
 ghost use Rattle.judging.specs.Judging.{judged};
 ghost use Rattle.judging.specs.Tests.{IsBinder, Tests, EntryTest, matchChildrenRule, IsMatch, ShapeTest, PatternTest, IndexTest, LevelTest, TypeTest};
-use rules::both;
+use kinds::both;
 
 // The level of a binder's variable, and its type.
 struct Binder {
@@ -80,7 +80,7 @@ fn binder_at(binders: &[u32], depth: usize, i: u16) -> Binder
 fn index_ok(r: records::Record, depth: usize) -> bool
     ensures { λ q. ⌜ IndexTest r depth q ⌝ }
 {
-    if rules::use_of_a(r.kind) == 1 {
+    if kinds::use_of_a(r.kind) == 1 {
         return (r.a as usize) < depth;
     }
     true
@@ -94,7 +94,7 @@ fn level_ok(r: records::Record, level: u16, bound: u16) -> bool
     match kind {
         2 => bound == level,
         10 => both(level == 0, bound == 1),
-        _ => rules::may_stand(kind, level),
+        _ => kinds::may_stand(kind, level),
     }
 }
 

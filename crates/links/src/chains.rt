@@ -6,8 +6,8 @@ ghost use Rattle.rules.specs.Check.{childrenRule};
 ghost use Rattle.records.specs.View.{recordsIn};
 ghost use Rattle.refusals.specs.Tells.{Tells};
 ghost use Rattle.links.specs.Chains.{GoodLinks, Parent};
+use kinds::both;
 use refusals::Verdict;
-use rules::both;
 
 // Whether record n has as many children as its kind asks. No more of the chain is read than that.
 fn children_ok(records: &[u8], n: u16) -> bool
@@ -15,7 +15,7 @@ fn children_ok(records: &[u8], n: u16) -> bool
     ensures { λ r. ⌜ r ≡ holds (childrenRule (recordsIn (now (records .entry))) n) ⌝ }
 {
     let r = records::record_no(records, n);
-    let count = rules::children(r.kind);
+    let count = kinds::children(r.kind);
     let c = r.first;
     if count == 0 {
         return c == 0;

@@ -1,8 +1,8 @@
 // Refusal 8: a record that holds a bad link, or one other than the root that is not named by exactly one link.
 // Good links are above their record's own number. So one pass in the records' order is enough: all links that may name a record are counted where
 // the pass comes to it.
+use kinds::both;
 use refusals::Verdict;
-use rules::both;
 ghost use mathlib.Core.Path.{_≡_};
 ghost use lib.Dec.{eqb};
 ghost use Rattle.rules.specs.Conditions.{holds};
@@ -77,6 +77,6 @@ pub fn links_refusal(records: &[u8], count: u16) -> Verdict
     requires { ⌜ Limited (recordsIn (now records)) count ⌝ }
     ensures { λ r. ⌜ Tells r (lowest (linksRule (recordsIn (now (records .entry)))) badLink 1 count) ⌝ }
 {
-    let mut counts = [0u16; rules::MOST_RECORDS as usize];
+    let mut counts = [0u16; kinds::MOST_RECORDS as usize];
     lowest_bad(records, count, &mut counts)
 }

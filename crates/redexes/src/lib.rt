@@ -32,7 +32,7 @@ fn find_at_rest(w: &[u8], i: usize) -> Found
     requires { ⌜ HasUnwritten (recordsIn (now w)) i ⌝ }
     ensures { λ r. ⌜ Finds 0 (recordsIn (now (w .entry))) i r ⌝ }
 {
-    if rules::first_level(terms::kind_at(w, i), 0) == 1 {
+    if kinds::first_level(terms::kind_at(w, i), 0) == 1 {
         return find1(w, i + 1);
     }
     Found::Done(terms::skip(w, i))
@@ -44,7 +44,7 @@ fn last_stepped(w: &[u8], i: usize, kind: u16) -> Found
     requires { ⌜ HasRewritten (recordsIn (now w)) i kind ⌝ }
     ensures { λ r. ⌜ LastStepped (recordsIn (now (w .entry))) i r ⌝ }
 {
-    if rules::stepping_at_zero(kind) == 2 {
+    if kinds::stepping_at_zero(kind) == 2 {
         return find0(w, i + 1);
     }
     Found::Done(i + 1)
@@ -60,7 +60,7 @@ fn find0(w: &[u8], i: usize) -> Found
     let mut passed = i;
     let mut any = false;
     let mut kind = terms::kind_at(w, i);
-    while rules::contracts_at_zero(kind) {
+    while kinds::contracts_at_zero(kind) {
         match last_stepped(w, at, kind) {
             Found::Redex(p) => {
                 return Found::Redex(p);
@@ -84,7 +84,7 @@ fn splice_below(w: &[u8], i: usize, kind: u16) -> bool
     if terms::is_plain_at(w, i) {
         return false;
     }
-    rules::is_plain(kind)
+    kinds::is_plain(kind)
 }
 
 // The place of the first splice that stands at level 1 in the tree at `i`; or else `Done`, with the place after the tree. A tree that is plain is
@@ -97,12 +97,12 @@ fn first_splice(w: &[u8], i: usize) -> Found
     let mut pending: usize = 1;
     while 0 < pending {
         let kind = terms::kind_at(w, at);
-        if rules::contracts_at_one(kind) {
+        if kinds::contracts_at_one(kind) {
             return Found::Redex(at);
         }
         pending -= 1;
         if splice_below(w, at, kind) {
-            pending += rules::children(kind) as usize;
+            pending += kinds::children(kind) as usize;
             at += 1;
         } else {
             at = terms::skip(w, at);

@@ -1,7 +1,6 @@
 -- What is true of the definitions, from general facts to demand 3, the bench sheet and the readings.
 pub mod General
 pub mod KindTable
-pub mod KindRanges
 pub mod Tables
 pub mod Facts
 pub mod Kept

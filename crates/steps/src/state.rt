@@ -12,7 +12,7 @@ ghost use Rattle.steps.specs.Starting.{CanStart, Starts};
 ghost use Rattle.steps.specs.Output.{Settles, CanWriteOut, WritesOut};
 
 // How many records a term may have.
-const MOST: usize = rules::MOST_RECORDS as usize;
+const MOST: usize = kinds::MOST_RECORDS as usize;
 
 // How many slots of the work buffer hold the term around its focus.
 const SLOTS: usize = 4096;

@@ -29,7 +29,7 @@ fn size_after(w: &[u8], src: usize, d: u16, m: u16, first: usize, second: usize)
         return r.first as usize;
     }
     let kind = r.kind;
-    let children = rules::children(kind);
+    let children = kinds::children(kind);
     if gives_way(children, r.a, d, m) {
         return chosen_size(first, second, r.a == d);
     }

@@ -25,7 +25,7 @@ pub fn raised_field(kind: u16, a: u16, n: u16, d: u16) -> u16
     requires { ⌜ FieldFits n d (kindOf kind) a ⌝ }
     ensures { λ q. ⌜ q ≡ movedField (raisedIndex n d) (kindOf kind) a ⌝ }
 {
-    if rules::use_of_a(kind) == 1 {
+    if kinds::use_of_a(kind) == 1 {
         raised_index(a, n, d)
     } else {
         a
@@ -64,7 +64,7 @@ pub fn copy_raised(w: &mut [u8], src: usize, dst: usize, n: u16, d: u16)
     }
     let kind = kind_at(w, src);
     raise_root(w, src, dst, n, d);
-    let children = rules::children(kind);
+    let children = kinds::children(kind);
     let mut at = src + 1;
     let mut to = dst + 1;
     let mut j: u16 = 0;

@@ -39,7 +39,7 @@ fn lowered_index(i: u16, m: u16, d: u16) -> u16
 fn lowered_field(kind: u16, a: u16, m: u16, d: u16) -> u16
     ensures { λ r. ⌜ r ≡ movedField (loweredIndex m d) (kindOf kind) a ⌝ }
 {
-    if rules::use_of_a(kind) == 1 {
+    if kinds::use_of_a(kind) == 1 {
         lowered_index(a, m, d)
     } else {
         a
@@ -75,7 +75,7 @@ pub fn copy_replaced(w: &mut [u8], src: usize, dst: usize, d: u16, g: Arguments)
         return Copied { end, replaced: 0 };
     }
     let kind = r.kind;
-    let children = rules::children(kind);
+    let children = kinds::children(kind);
     if gives_way(children, r.a, d, g.count) {
         let end = copy_argument(w, chosen(g, r.a == d), dst, d);
         return Copied { end, replaced: 1 };

@@ -65,7 +65,7 @@ pub fn copy_wrapped(w: &mut [u8], src: usize, dst: usize, n: u16, d: u16, code: 
         return copy_block(w, src, dst, r.first as usize);
     }
     let kind = r.kind;
-    let children = rules::children(kind);
+    let children = kinds::children(kind);
     if gives_way(children, r.a, d, 1) {
         return put_use(w, dst, r, code);
     }

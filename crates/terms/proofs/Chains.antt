@@ -10,7 +10,7 @@ use Rattle.rules.specs.Conditions.{Holds}
 use Rattle.rules.specs.Format.{Record, recordNo}
 use Rattle.rules.specs.Links.{firstOf, nextOf, node, treeOf}
 use Rattle.rules.specs.Check.{children}
-use Rattle.rules.proofs.KindRanges.{number-back}
+use Rattle.kinds.proofs.KindRanges.{number-back}
 use Rattle.rules.proofs.Tree.{first-le, first-above, next-le, next-above}
 use Rattle.terms.specs.Loads.{WellLinked}
 use Rattle.terms.proofs.Children.{kids}

@@ -71,8 +71,8 @@ pub fn binders_over(kind: u16, j: u16) -> u16
     ensures { λ r. ⌜ r ≡ bindersOver (kindOf kind) j ⌝ }
 {
     match j {
-        0 => rules::binders_first(kind),
-        1 => rules::binders_second(kind),
+        0 => kinds::binders_first(kind),
+        1 => kinds::binders_second(kind),
         _ => 0,
     }
 }
@@ -82,7 +82,7 @@ fn own_bound(kind: u16, a: u16) -> u16
     requires { ⌜ OwnIndexFits (kindOf kind) a ⌝ }
     ensures { λ r. ⌜ OwnIs (kindOf kind) a r ⌝ }
 {
-    if rules::use_of_a(kind) == 1 { a + 1 } else { 0 }
+    if kinds::use_of_a(kind) == 1 { a + 1 } else { 0 }
 }
 
 // The measure `m`, joined with the child that stands at its end, over which so many variables are bound.
@@ -96,7 +96,7 @@ fn with_child(w: &[u8], m: Measure, binders: u16) -> Measure
     Measure {
         end: skip(w, i),
         bound: larger(m.bound, without(bound, binders)),
-        plain: rules::both(m.plain, plain),
+        plain: kinds::both(m.plain, plain),
     }
 }
 
@@ -107,11 +107,11 @@ fn measured(w: &[u8], i: usize) -> Measure
 {
     let r = records::get(w, i);
     let kind = r.kind;
-    let children = rules::children(kind);
+    let children = kinds::children(kind);
     let mut m = Measure {
         end: i + 1,
         bound: own_bound(kind, r.a),
-        plain: rules::is_plain(kind),
+        plain: kinds::is_plain(kind),
     };
     let mut j: u16 = 0;
     while j < children {

@@ -96,7 +96,7 @@ fn push_first(binders: &mut [u32], depth: usize, kind: u16, level: u16, a: u16) 
     requires { ⌜ depth + 2 ≤ length (now binders) ⌝ }
     ensures { λ r. ⌜ PushesFirst kind level a (now (binders .entry)) (now (binders .exit)) depth r ⌝ }
 {
-    if rules::binders_first(kind) == 0 {
+    if kinds::binders_first(kind) == 0 {
         return depth;
     }
     push(binders, depth, level, a)
@@ -107,7 +107,7 @@ fn push_second(binders: &mut [u32], depth: usize, kind: u16, a: u16, b: u16) -> 
     requires { ⌜ depth + 2 ≤ length (now binders) ⌝ }
     ensures { λ r. ⌜ PushesSecond kind a b (now (binders .entry)) (now (binders .exit)) depth r ⌝ }
 {
-    let count = rules::binders_second(kind);
+    let count = kinds::binders_second(kind);
     if count == 0 {
         return depth;
     }
@@ -126,7 +126,7 @@ fn first_child(records: &[u8], binders: &mut [u32], depth: usize, level: u16, n:
     let r = records::record_no(records, n);
     Child {
         n: r.first,
-        level: rules::first_level(r.kind, level),
+        level: kinds::first_level(r.kind, level),
         depth: push_first(binders, depth, r.kind, level, r.a),
     }
 }

@@ -32,7 +32,7 @@ fn write_head(w: &[u8], i: usize, out: &mut [u8], number: u16, next: u16) -> u16
     ensures { λ r. ⌜ Heads (recordsIn (now (w .entry))) i (now (out .entry)) number next (now (out .exit)) r ⌝ }
 {
     let mut r = records::get(w, i);
-    let children = rules::children(r.kind);
+    let children = kinds::children(r.kind);
     r.first = link(children, number, 1);
     r.next = next;
     records::put(out, (number - 1) as usize, r);

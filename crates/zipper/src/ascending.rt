@@ -43,9 +43,9 @@ fn stepping_at(kind: u16, level: u16) -> u16
     ensures { λ r. ⌜ r ≡ stepping level (kindOf kind) ⌝ }
 {
     if level == 0 {
-        rules::stepping_at_zero(kind)
+        kinds::stepping_at_zero(kind)
     } else {
-        rules::stepping_at_one(kind)
+        kinds::stepping_at_one(kind)
     }
 }
 
@@ -55,9 +55,9 @@ fn contracts_at(kind: u16, level: u16) -> bool
     ensures { λ r. ⌜ r ≡ contracts level (kindOf kind) ⌝ }
 {
     if level == 0 {
-        rules::contracts_at_zero(kind)
+        kinds::contracts_at_zero(kind)
     } else {
-        rules::contracts_at_one(kind)
+        kinds::contracts_at_one(kind)
     }
 }
 
@@ -68,7 +68,7 @@ fn steps_next(w: &[u8], z: Focus, level: u16) -> bool
 {
     let kind = kind_at(w, z.top);
     let after = children_after(w, z);
-    let next = rules::children(kind) - after;
+    let next = kinds::children(kind) - after;
     next < stepping_at(kind, level)
 }
 
@@ -94,7 +94,7 @@ pub fn ascend(w: &mut [u8], z: Focus, level: u16) -> Turn
                 level: inner,
             });
         }
-        if rules::children(kind) == 3 {
+        if kinds::children(kind) == 3 {
             return Turn::Match(at);
         }
         at = close(w, at);
@@ -112,7 +112,7 @@ pub fn reach(w: &mut [u8], a: Ahead, p: usize) -> Turn
 {
     let redex = descend(w, a, p);
     let kind = kind_at(w, p);
-    if rules::children(kind) == 3 {
+    if kinds::children(kind) == 3 {
         let code = open_ahead(w, redex, 0);
         return Turn::Match(bring(w, code));
     }

@@ -54,7 +54,7 @@ pub fn children_after(w: &[u8], z: Focus) -> u16
     ensures { λ r. ⌜ CountsAfter (recordsIn (now (w .entry))) z r ⌝ }
 {
     let kind = kind_at(w, z.top);
-    let mut left = rules::children(kind) - 1;
+    let mut left = kinds::children(kind) - 1;
     let mut at = z.top + 1;
     while at < z.s {
         at = skip(w, at);
@@ -121,7 +121,7 @@ pub fn open_ahead(w: &mut [u8], a: Ahead, j: u16) -> Ahead
     let l = a.l;
     let r = a.r;
     let kind = kind_at(w, r);
-    let level = rules::first_level(kind, a.level);
+    let level = kinds::first_level(kind, a.level);
     let start = skip_all(w, r + 1, j);
     let n = start - r;
     terms::copy_flat(w, r, l, n);

@@ -2,7 +2,7 @@
 use Prim.Native.Nat.{_-_}
 use borrow.Author.Needs.{needs}
 use Rattle.rules.specs.Format.{recordNo}
-use Rattle.rules.specs.Meant.{editionMeant}
+use Rattle.kinds.specs.Meant.{editionMeant}
 use Rattle.rules.specs.Refusals.{badField}
 use Rattle.rules.specs.Check.{fieldsRule}
 use Rattle.records.specs.View.{entriesIn, recordsIn}

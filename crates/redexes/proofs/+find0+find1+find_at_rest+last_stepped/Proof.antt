@@ -24,9 +24,9 @@ use Rattle.redexes.proofs.+find0+find1+find_at_rest+last_stepped.Lts-la
 use Rattle.redexes.proofs.first_splice.Reads as first-splice-reads
 use Rattle.terms.proofs.kind_at.Reads as kind-at-reads
 use Rattle.redexes.proofs.or_here.Reads as or-here-reads
-use Rattle.rules.proofs.contracts_at_zero.Reads as contracts-at-zero-reads
-use Rattle.rules.proofs.first_level.Reads as first-level-reads
-use Rattle.rules.proofs.stepping_at_zero.Reads as stepping-at-zero-reads
+use Rattle.kinds.proofs.contracts_at_zero.Reads as contracts-at-zero-reads
+use Rattle.kinds.proofs.first_level.Reads as first-level-reads
+use Rattle.kinds.proofs.stepping_at_zero.Reads as stepping-at-zero-reads
 use Rattle.terms.proofs.skip.Reads as skip-reads
 use Rattle.redexes.proofs.+find0+find1+find_at_rest+last_stepped.{statement}
 use Rattle.redexes.proofs.+find0+find1+find_at_rest+last_stepped.Tie.{close}

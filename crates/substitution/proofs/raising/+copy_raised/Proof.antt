@@ -11,7 +11,7 @@ use Rattle.substitution.proofs.RaisedCopies.{Raising, copying-raised, t
 use Rattle.substitution.proofs.raising.copy_raised.Reads as copy-raised
 use Rattle.substitution.proofs.raising.copy_raised.Kinds as copy-raised-kinds
 use Rattle.substitution.proofs.raising.+copy_raised.Lts-copy_raised as copy-raised-lts
-use Rattle.rules.proofs.children.Reads as children-reads
+use Rattle.kinds.proofs.children.Reads as children-reads
 use Rattle.terms.proofs.copy_flat.Reads as copy-flat-reads
 use Rattle.terms.proofs.binders_over.Reads as binders-over-reads
 use Rattle.terms.proofs.bound_at.Reads as bound-at-reads

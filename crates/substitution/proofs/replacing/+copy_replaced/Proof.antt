@@ -16,7 +16,7 @@ use Rattle.substitution.proofs.replacing.copy_replaced.Reads as copy-re
 use Rattle.substitution.proofs.replacing.copy_replaced.Kinds as copy-replaced-kinds
 use Rattle.substitution.proofs.replacing.+copy_replaced.Lts-copy_replaced as copy-replaced-lts
 use Rattle.records.proofs.get.Reads as get-reads
-use Rattle.rules.proofs.children.Reads as children-reads
+use Rattle.kinds.proofs.children.Reads as children-reads
 use Rattle.substitution.proofs.copying.copy_block.Reads as copy-block-reads
 use Rattle.substitution.proofs.copying.gives_way.Reads as gives-way-reads
 use Rattle.substitution.proofs.making.copy_argument.Reads as copy-argument-reads

@@ -14,7 +14,7 @@ use Rattle.substitution.proofs.wrapping.copy_wrapped.Reads as copy-wrap
 use Rattle.substitution.proofs.wrapping.copy_wrapped.Kinds as copy-wrapped-kinds
 use Rattle.substitution.proofs.wrapping.+copy_wrapped.Lts-copy_wrapped as copy-wrapped-lts
 use Rattle.records.proofs.get.Reads as get-reads
-use Rattle.rules.proofs.children.Reads as children-reads
+use Rattle.kinds.proofs.children.Reads as children-reads
 use Rattle.substitution.proofs.copying.copy_block.Reads as copy-block-reads
 use Rattle.substitution.proofs.copying.gives_way.Reads as gives-way-reads
 use Rattle.substitution.proofs.wrapping.put_use.Reads as put-use-reads

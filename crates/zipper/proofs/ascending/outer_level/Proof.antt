@@ -2,7 +2,7 @@
 use mathlib.Core.List.{[], _∷_}
 use native.Mathlib.Omega.{arith}
 use Rattle.rules.specs.Kinds.{kindOf}
-use Rattle.rules.proofs.KindRanges.{itself, itself-one, arm, rest}
+use Rattle.kinds.proofs.KindRanges.{itself, itself-one, arm, rest}
 use Rattle.contexts.specs.Contexts.{outerLevel}
 use Rattle.zipper.proofs.Turns.{keeps-level}
 use Rattle.zipper.proofs.ascending.outer_level.Statement.{statement}

@@ -1,0 +1,2 @@
+-- What the contracts of the tables cite beside the definitions of `rules`.
+pub mod Meant

@@ -1,6 +1,0 @@
--- The edition of the rules that a struct of the code stands for.
-use Rattle.rules.specs.Editions.{Edition as MeantEdition}
-use Rattle.rules.specs.declared.editions.Edition.{Edition}
-
-abbrev pub editionMeant : Edition → MeantEdition
-editionMeant edition = record { lastKind = edition .«last_kind» }
