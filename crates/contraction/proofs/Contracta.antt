@@ -13,7 +13,7 @@ use Rattle.terms.proofs.Trees.{length-preorder}
 use Rattle.substitution.specs.declared.arguments.Argument.{Argument}
 use Rattle.substitution.specs.declared.arguments.Arguments.{Arguments}
 use Rattle.substitution.specs.declared.replacing.Copied.{Copied}
-use Rattle.substitution.specs.Copying.{CopyAt, CanCopy, Written}
+use Rattle.copies.specs.Copying.{CopyAt, CanCopy, Written}
 use Rattle.substitution.specs.Making.{MakingAt, CanCopyArgument, CopiesArgument}
 use Rattle.substitution.specs.Replacing.{Replacing, Replaces}
 use Rattle.contraction.specs.declared.plans.Plan.{Plan}

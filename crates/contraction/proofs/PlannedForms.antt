@@ -9,7 +9,7 @@ use Rattle.rules.specs.Format.{Record}
 use Rattle.terms.specs.Preorder.{At}
 use Rattle.substitution.specs.declared.arguments.Argument.{Argument}
 use Rattle.substitution.specs.declared.arguments.Arguments.{Arguments}
-use Rattle.substitution.specs.Arguments.{Outside}
+use Rattle.copies.specs.Copying.{Outside}
 use Rattle.contraction.specs.declared.plans.Plan.{Plan}
 use Rattle.contraction.specs.declared.plans.Plan.the-variants.{Tree, Body, Made}
 use Rattle.contraction.specs.Plans.{Low, Stands, AllStand, Clear, Planned, itself, from-body, anew}

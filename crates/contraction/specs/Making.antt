@@ -8,7 +8,7 @@ use lib.ListN.{length}
 use Rattle.rules.specs.Terms.{Term, size}
 use Rattle.rules.specs.Format.{Record}
 use Rattle.terms.specs.Preorder.{There, At}
-use Rattle.substitution.specs.Arguments.{Outside}
+use Rattle.copies.specs.Copying.{Outside}
 use Rattle.contraction.specs.declared.plans.Plan.{Plan}
 use Rattle.contraction.specs.declared.making.Block.{Block}
 use Rattle.contraction.specs.Plans.{Clear, Planned}

@@ -10,7 +10,8 @@ use Rattle.rules.specs.Format.{Record}
 use Rattle.terms.specs.Preorder.{At}
 use Rattle.substitution.specs.declared.arguments.Argument.{Argument}
 use Rattle.substitution.specs.declared.arguments.Arguments.{Arguments}
-use Rattle.substitution.specs.Arguments.{Outside, StandsFor}
+use Rattle.copies.specs.Copying.{Outside}
+use Rattle.substitution.specs.Arguments.{StandsFor}
 use Rattle.substitution.specs.Replacing.{Given}
 use Rattle.contraction.specs.declared.plans.Plan.{Plan}
 use Rattle.contraction.specs.declared.plans.Plan.the-variants.{Tree, Body, Made}

@@ -14,11 +14,11 @@ use Rattle.terms.specs.Preorder.{HasTree}
 use Rattle.substitution.specs.declared.arguments.Argument.{Argument}
 use Rattle.substitution.specs.declared.arguments.Argument.the-variants.{Tree, Quote, Opened}
 use Rattle.substitution.specs.Arguments.{placeOf, described}
-use Rattle.substitution.specs.Copying.{TreeSize}
+use Rattle.copies.specs.Copying.{TreeSize}
 use Rattle.substitution.specs.Counting.{weight, sizeAfter, CanCount, CountsSize, HasArgument, Measures}
 use Rattle.substitution.proofs.Sums.{Weighs, changed-size}
 use Rattle.substitution.proofs.SizesAfter.{after-most}
-use Rattle.substitution.proofs.WrappedCopies.{names-one}
+use Rattle.copies.proofs.WrappedCopies.{names-one}
 
 -- Each use makes two records.
 pub wrapping-weighs : (code : ℕ) → Weighs (wrapping code) (weight 1 2 2)

@@ -27,13 +27,13 @@ use Rattle.terms.proofs.Trees.{length-preorder, at-first, at-within}
 use Rattle.substitution.specs.declared.arguments.Argument.{Argument}
 use Rattle.substitution.specs.declared.arguments.Argument.the-variants.{Tree, Quote, Opened}
 use Rattle.substitution.specs.Arguments.{placeOf, functionFields, described}
-use Rattle.substitution.specs.Raising.{RaisingAt, CanRaise, Raises}
-use Rattle.substitution.specs.Copying.{CopyAt, CanCopy, Written, Copies, TreeSize, BlockMoved}
-use Rattle.substitution.specs.Wrapping.{wrappingUnder, Wrapping}
+use Rattle.copies.specs.Raising.{RaisingAt, CanRaise, Raises}
+use Rattle.copies.specs.Copying.{CopyAt, CanCopy, Written, Copies, TreeSize, BlockMoved}
+use Rattle.copies.specs.Wrapping.{wrappingUnder, Wrapping}
 use Rattle.substitution.specs.Making.{UnderRoot, CanPutOver, PutsOver, MakingAt, CanCopyArgument, CopiesArgument}
-use Rattle.substitution.proofs.RaisedRoots.{size-raised, raised-zero}
+use Rattle.copies.proofs.RaisedRoots.{size-raised, raised-zero}
 use Rattle.terms.proofs.Puts.{put-before}
-use Rattle.substitution.proofs.WrappedCopies.{wraps-raised, wrapping-sound}
+use Rattle.copies.proofs.WrappedCopies.{wraps-raised, wrapping-sound}
 
 -- `put_over`
 module _ (rs : List Record) (dst kind : ℕ) where

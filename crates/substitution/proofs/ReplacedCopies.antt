@@ -30,13 +30,13 @@ use Rattle.substitution.specs.declared.arguments.Argument.{Argument}
 use Rattle.substitution.specs.declared.arguments.Argument.the-variants.{Tree, Quote, Opened}
 use Rattle.substitution.specs.declared.arguments.Arguments.{Arguments}
 use Rattle.substitution.specs.Arguments.{described}
-use Rattle.substitution.specs.Copying.{Way, CopyAt, CanCopy, Counts, BlockMoved, isNamed, MovesRoot}
+use Rattle.copies.specs.Copying.{Way, CopyAt, CanCopy, Counts, BlockMoved, isNamed, MovesRoot}
 use Rattle.substitution.specs.Making.{MakingAt, CanCopyArgument, CopiesArgument}
 use Rattle.substitution.specs.Replacing.{Given, Replacing, Replaces}
-use Rattle.substitution.proofs.RaisedRoots.{size-raised}
-use Rattle.substitution.proofs.Rows.{child}
+use Rattle.copies.proofs.RaisedRoots.{size-raised}
+use Rattle.copies.proofs.Rows.{child}
 use Rattle.substitution.proofs.Sums.{low-summed, Adding, adding-starts, adding-next, adding-most, adding-ends}
-use Rattle.substitution.proofs.Copies.{Stays, tree-stays, Sound, Spot, named, read-root, read-bound, read-spot, RootOf, Copying, root-of, block-does, copy-ends, next-one, next-meant, next-copy, over, copying}
+use Rattle.copies.proofs.Copies.{Stays, tree-stays, Sound, Spot, named, read-root, read-bound, read-spot, RootOf, Copying, root-of, block-does, copy-ends, next-one, next-meant, next-copy, over, copying}
 
 -- `lowered_index`
 pub lowered-stays : (i m d : ℕ) → i < d → i ≡ loweredIndex m d i

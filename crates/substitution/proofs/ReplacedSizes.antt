@@ -22,9 +22,9 @@ use Rattle.substitution.specs.declared.arguments.Argument.{Argument}
 use Rattle.substitution.specs.declared.arguments.Argument.the-variants.{Tree, Quote, Opened}
 use Rattle.substitution.specs.declared.arguments.Arguments.{Arguments}
 use Rattle.substitution.specs.Arguments.{described, StandForAll}
-use Rattle.substitution.specs.Copying.{TreeSize}
+use Rattle.copies.specs.Copying.{TreeSize}
 use Rattle.substitution.specs.Counting.{weight, sizeAfter, CanCount, CountsSize, HasArgument, Measures, CanFit, MeasuresSecond, TellsRoom}
-use Rattle.substitution.proofs.RaisedRoots.{size-raised}
+use Rattle.copies.proofs.RaisedRoots.{size-raised}
 use Rattle.substitution.proofs.Sums.{Weighs, changed-size, summed-most, weight-most}
 use Rattle.substitution.proofs.ReplacedCopies.{innermost}
 use Rattle.substitution.proofs.ArgumentSizes.{wrapping-weighs}

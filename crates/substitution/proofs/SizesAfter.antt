@@ -23,11 +23,11 @@ use Rattle.terms.specs.Preorder.{head, At, HasTree, Skips}
 use Rattle.terms.specs.Measuring.{bindersOver}
 use Rattle.terms.proofs.Trees.{at-first, kids-there}
 use Rattle.terms.proofs.Joined.{binds-few}
-use Rattle.substitution.specs.Copying.{isNamed}
+use Rattle.copies.specs.Copying.{isNamed}
 use Rattle.substitution.specs.Counting.{weight, sizeAfter, CanCount, CountsSize}
-use Rattle.substitution.proofs.Rows.{child, Row, row-starts, Turn, row-turn}
+use Rattle.copies.proofs.Rows.{child, Row, row-starts, Turn, row-turn}
 use Rattle.substitution.proofs.Sums.{low-summed, summed-most, weight-most, Adding, adding-starts, adding-next, adding-most, adding-ends}
-use Rattle.substitution.proofs.Copies.{Spot, named, kept, read-root, read-bound, read-kind, read-spot}
+use Rattle.copies.proofs.Copies.{Spot, named, kept, read-root, read-bound, read-kind, read-spot}
 
 -- A tree whose root gives way to nothing.
 pub record StaysAt (m : ℕ) (rs : List Record) (src d k : ℕ) (t : Term) : Type 0 where

@@ -18,7 +18,7 @@ use Rattle.terms.specs.Children.{kids}
 use Rattle.terms.specs.Measuring.{bindersOver}
 use Rattle.terms.proofs.Joined.{first-over, second-over}
 use Rattle.substitution.specs.Counting.{weight}
-use Rattle.substitution.proofs.Rows.{child, after, child-split, none-after}
+use Rattle.copies.proofs.Rows.{child, after, child-split, none-after}
 
 -- The sums of the children from child j on.
 unfoldable pub summedFrom : (ℕ → ℕ → ℕ) → ℕ → ℕ → Kind → ℕ → List Term → ℕ

@@ -1,7 +1,6 @@
 -- Arguments: which term each stands for, and where its tree is read.
 use Prim.Native.Nat.{ℕ, _+_, _<_, _≤_}
 use mathlib.Core.List.{List}
-use mathlib.Core.Logic.{_⊎_}
 use mathlib.Core.Path.{_≡_}
 use lib.ListN.{length, getD}
 use lib.Dec.{eqb}
@@ -12,6 +11,7 @@ use Rattle.rules.specs.Indices.{wrapped}
 use Rattle.rules.specs.Matching.{quoted}
 use Rattle.rules.specs.Format.{Record}
 use Rattle.terms.specs.Preorder.{At}
+use Rattle.copies.specs.Copying.{Outside}
 use Rattle.substitution.specs.declared.arguments.Argument.{Argument}
 use Rattle.substitution.specs.declared.arguments.Argument.the-variants.{Tree, Quote, Opened}
 use Rattle.substitution.specs.declared.arguments.Arguments.{Arguments}
@@ -32,10 +32,6 @@ unfoldable pub described : Argument → Term → Term
 described (Tree at) u = u
 described (Quote at ty) u = quoted ty u
 described (Opened at ty a b) u = unary function (functionFields ty a) (quoted b (wrapped a u))
-
--- A tree of n records at i is outside of the records from lo on and before hi.
-abbrev pub Outside : ℕ → ℕ → ℕ → ℕ → Type 0
-Outside lo hi i n = (i + n ≤ lo) ⊎ (hi ≤ i)
 
 -- The argument stands for t: a tree is at its place, outside of the records from lo on and before hi, which are free for the copy.
 pub record StandsFor (rs : List Record) (lo hi : ℕ) (g : Argument) (t : Term) : Type 0 where

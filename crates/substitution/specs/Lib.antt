@@ -1,9 +1,5 @@
 -- Substitution by copying: what variables give way to, and what the copies are.
 pub mod Arguments
-pub mod Roots
-pub mod Raising
-pub mod Copying
-pub mod Wrapping
 pub mod Making
 pub mod Replacing
 pub mod Counting

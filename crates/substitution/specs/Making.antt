@@ -11,7 +11,7 @@ use Rattle.rules.specs.Format.{Record}
 use Rattle.terms.specs.Preorder.{head, At}
 use Rattle.substitution.specs.declared.arguments.Argument.{Argument}
 use Rattle.substitution.specs.Arguments.{functionFields, StandsFor}
-use Rattle.substitution.specs.Copying.{Written}
+use Rattle.copies.specs.Copying.{Written}
 
 -- The tree u stands after dst, so that a root over it can be written to dst. The measures of the two fit 16 bits.
 pub record UnderRoot (rs : List Record) (dst : ℕ) (u : Term) : Type 0 where

@@ -9,7 +9,7 @@ use Rattle.rules.specs.Format.{Record}
 use Rattle.substitution.specs.declared.arguments.Arguments.{Arguments}
 use Rattle.substitution.specs.declared.replacing.Copied.{Copied}
 use Rattle.substitution.specs.Arguments.{StandForAll}
-use Rattle.substitution.specs.Copying.{Copies, Counts}
+use Rattle.copies.specs.Copying.{Copies, Counts}
 
 -- The arguments stand for ts. The tree of each reaches at most b far: its free bound and four for each of its records.
 pub record Given (rs : List Record) (lo hi : ℕ) (g : Arguments) (ts : List Term) (b : ℕ) : Type 0 where

@@ -1,8 +1,8 @@
 // The sizes of copies, told before anything is copied.
 use crate::arguments::Argument;
 use crate::arguments::Arguments;
-use crate::copying::gives_way;
-use crate::copying::tree_size;
+use copies::gives_way;
+use copies::tree_size;
 use terms::binders_over;
 use terms::skip;
 ghost use mathlib.Core.Path.{_≡_};

@@ -1,11 +1,8 @@
 // Substitution: copies of trees in which indices move and variables give way, with the measures of the copies.
 mod arguments; // what variables give way to
-mod copying; // what other copies have in common
 mod counting; // the sizes of copies
 mod making; // arguments, written out
-mod raising; // copies with their indices raised
 mod replacing; // copies with variables replaced
-mod wrapping; // copies with uses of a variable wrapped
 
 pub use arguments::Argument;
 pub use arguments::Arguments;

@@ -1,9 +1,9 @@
 // The terms that arguments stand for, written out.
 use crate::arguments::Argument;
-use crate::copying::copy_block;
-use crate::copying::tree_size;
-use crate::raising::copy_raised;
-use crate::wrapping::copy_wrapped;
+use copies::copy_block;
+use copies::copy_raised;
+use copies::copy_wrapped;
+use copies::tree_size;
 use records::Record;
 use terms::mark_root;
 ghost use Rattle.records.specs.View.{recordsIn};

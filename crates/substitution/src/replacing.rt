@@ -1,10 +1,10 @@
 // A copy of a tree with variables replaced by what arguments stand for, with the measures of the copy.
 use crate::arguments::Argument;
 use crate::arguments::Arguments;
-use crate::copying::copy_block;
-use crate::copying::gives_way;
-use crate::copying::put_indexed;
 use crate::making::copy_argument;
+use copies::copy_block;
+use copies::gives_way;
+use copies::put_indexed;
 use records::Record;
 use terms::binders_over;
 use terms::mark_root;
@@ -18,8 +18,8 @@ ghost use Rattle.rules.specs.Kinds.{kindOf};
 ghost use Rattle.rules.specs.Indices.{loweredIndex};
 ghost use Rattle.records.specs.View.{recordsIn};
 ghost use Rattle.records.specs.Meant.{recordMeant};
-ghost use Rattle.substitution.specs.Roots.{movedField};
-ghost use Rattle.substitution.specs.Copying.{CanCopy, MovesRoot};
+ghost use Rattle.copies.specs.Roots.{movedField};
+ghost use Rattle.copies.specs.Copying.{CanCopy, MovesRoot};
 ghost use Rattle.substitution.specs.Replacing.{Replacing, Replaces};
 
 // The place after a copy, and how many variables gave way in it.

@@ -13,7 +13,7 @@ use Rattle.substitution.proofs.counting.size_after.Kinds as size-after-
 use Rattle.substitution.proofs.counting.+size_after.Lts-size_after as size-after-lts
 use Rattle.records.proofs.get.Reads as get-reads
 use Rattle.kinds.proofs.children.Reads as children-reads
-use Rattle.substitution.proofs.copying.gives_way.Reads as gives-way-reads
+use Rattle.copies.proofs.gives_way.Reads as gives-way-reads
 use Rattle.substitution.proofs.counting.chosen_size.Reads as chosen-size-reads
 use Rattle.terms.proofs.binders_over.Reads as binders-over-reads
 use Rattle.terms.proofs.skip.Reads as skip-reads

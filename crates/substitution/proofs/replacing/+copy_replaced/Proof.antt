@@ -1,5 +1,5 @@
 -- `copy_replaced` meets its contract. Assumes nothing.
-use Rattle.substitution.proofs.Copies.{block-can, copy-starts, turn-tree, turn-deep, turn-can, turn-next, copy-rooted, copy-falls, RootOf, Copying}
+use Rattle.copies.proofs.Copies.{block-can, copy-starts, turn-tree, turn-deep, turn-can, turn-next, copy-rooted, copy-falls, RootOf, Copying}
 use Rattle.substitution.proofs.ReplacedCopies.{replacing-sound, count-starts, count-next, count-fits, replacing-laws}
 use borrow.Author.Needs.{needs}
 use Prim.Native.Nat.{ℕ, _-_, _<_}
@@ -17,8 +17,8 @@ use Rattle.substitution.proofs.replacing.copy_replaced.Kinds as copy-re
 use Rattle.substitution.proofs.replacing.+copy_replaced.Lts-copy_replaced as copy-replaced-lts
 use Rattle.records.proofs.get.Reads as get-reads
 use Rattle.kinds.proofs.children.Reads as children-reads
-use Rattle.substitution.proofs.copying.copy_block.Reads as copy-block-reads
-use Rattle.substitution.proofs.copying.gives_way.Reads as gives-way-reads
+use Rattle.copies.proofs.copy_block.Reads as copy-block-reads
+use Rattle.copies.proofs.gives_way.Reads as gives-way-reads
 use Rattle.substitution.proofs.making.copy_argument.Reads as copy-argument-reads
 use Rattle.substitution.proofs.replacing.chosen.Reads as chosen-reads
 use Rattle.substitution.proofs.replacing.lower_root.Reads as lower-root-reads

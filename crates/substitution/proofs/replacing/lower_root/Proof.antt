@@ -1,5 +1,5 @@
 -- `lower_root` meets its contract. Assumes nothing.
-use Rattle.substitution.proofs.Parts.{parts}
+use Rattle.copies.proofs.Parts.{parts}
 use borrow.Author.Needs.{needs}
 use Rattle.substitution.proofs.replacing.lower_root.Statement.{statement}
 use Rattle.substitution.proofs.replacing.lower_root.Tie as tie

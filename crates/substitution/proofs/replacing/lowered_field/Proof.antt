@@ -1,7 +1,7 @@
 -- `lowered_field` meets its contract. Assumes nothing.
 use mathlib.Core.Path.{_∙_, sym}
 use borrow.Author.Needs.{needs}
-use Rattle.substitution.proofs.Roots.{moved-index, moved-other}
+use Rattle.copies.proofs.Roots.{moved-index, moved-other}
 use Rattle.substitution.proofs.replacing.lowered_field.Statement.{statement}
 use Rattle.substitution.proofs.replacing.lowered_field.Tie as tie
 
