@@ -22,8 +22,8 @@ use Rattle.records.proofs.Records.{records-length}
 use Rattle.steps.specs.declared.state.State.{State}
 use Rattle.steps.specs.Starting.{CanStart, Starts}
 use Rattle.steps.specs.Stepping.{HoldsTerm}
-use Rattle.engine.specs.declared.Completion.{Completion}
-use Rattle.engine.specs.Finishing.{CanFinish, Finished, Finishes}
+use Rattle.running.specs.declared.Completion.{Completion}
+use Rattle.running.specs.Finishing.{CanFinish, Finished, Finishes}
 use Rattle.engine.specs.Accepting.{CanAccept, Accepted}
 use Rattle.engine.proofs.Checks.{passing-types, passing-count, passing-end}
 

@@ -1,6 +1,3 @@
 -- What the answers of the public calls mean, and what their parts ask and ensure.
 pub mod Answers
-pub mod Running
-pub mod Looping
-pub mod Finishing
 pub mod Accepting

@@ -4,10 +4,7 @@ ghost use Rattle.rules.specs.Editions.{firstEdition};
 ghost use Rattle.rules.specs.Format.{recordsOf};
 ghost use Rattle.rules.specs.Check.{typeNo, checkAnswer};
 ghost use Rattle.rules.specs.Run.{refused};
-ghost use Rattle.records.specs.View.{entriesIn, recordsIn};
 ghost use Rattle.engine.specs.Answers.{checkMeant, runMeant, Passing, Ran};
-ghost use Rattle.engine.specs.Looping.{CanRun, RunsOut, Concludes};
-ghost use Rattle.engine.specs.Finishing.{CanFinish, Finishes};
 ghost use Rattle.engine.specs.Accepting.{CanAccept, Accepted};
 use steps::State;
 
@@ -94,66 +91,6 @@ fn refusing(number: u16, place: u16) -> RunAnswer
     }
 }
 
-// Steps until the term is a value, the fuel is spent or the table is full.
-fn run_steps(start: State, table: &[u8], fuel: u32, work: &mut [u8]) -> State
-    requires { ⌜ CanRun (entriesIn (now table)) (recordsIn (now work)) start ⌝ }
-    ensures { λ r. ⌜ RunsOut (entriesIn (now (table .entry))) fuel (recordsIn (now (work .entry))) (recordsIn (now (work .exit))) start r ⌝ }
-{
-    let mut s = start;
-    loop {
-        s = s.seek(work);
-        if s.is_value() {
-            return s;
-        }
-        if fuel <= s.steps {
-            return s;
-        }
-        s = s.step(table, work);
-        if s.stopped {
-            return s;
-        }
-    }
-}
-
-// The number of the ending of a run that has stopped: "ending value if the term is a value; else spent if n is the fuel; else full".
-fn ending_of(s: State) -> u32
-    ensures { λ r. ⌜ Concludes s r ⌝ }
-{
-    if s.is_value() {
-        return 1;
-    }
-    if s.stopped { 3 } else { 2 }
-}
-
-// What a run came to: the number of its ending, the steps made and the bytes written.
-struct Completion {
-    ending: u32,
-    steps: u32,
-    written: u32,
-}
-
-// Runs the first term and writes the last one out, under a table of `types` entries.
-fn finish(
-    start: State,
-    table: &[u8],
-    types: u16,
-    fuel: u32,
-    work: &mut [u8],
-    output: &mut [u8],
-) -> Completion
-    requires { ⌜ CanFinish (now table) types (recordsIn (now work)) start (now output) ⌝ }
-    ensures { λ r. ⌜ Finishes (now (table .entry)) fuel (recordsIn (now (work .entry))) start (now (output .entry)) (now (output .exit)) r ⌝ }
-{
-    let last = run_steps(start, table, fuel, work);
-    let ending = ending_of(last);
-    let written = last.write_out(table, types, work, output);
-    Completion {
-        ending,
-        steps: last.steps,
-        written: written as u32,
-    }
-}
-
 // The run of a program that is passed.
 fn accepted(program: &[u8], fuel: u32, output: &mut [u8], work: &mut [u8]) -> RunAnswer
     requires { ⌜ CanAccept (now program) (now output) (now work) ⌝ }
@@ -164,7 +101,7 @@ fn accepted(program: &[u8], fuel: u32, output: &mut [u8], work: &mut [u8]) -> Ru
     let count = records::get16(program, 2);
     let end = 4 + 6 * (types as usize);
     let start = State::start(&program[end..], count, work);
-    let done = finish(start, &program[4..end], types, fuel, work, output);
+    let done = running::finish(start, &program[4..end], types, fuel, work, output);
     RunAnswer {
         number: 0,
         place: 0,

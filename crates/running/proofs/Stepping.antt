@@ -13,7 +13,7 @@ use Rattle.rules.specs.Next.{next}
 use Rattle.rules.specs.Format.{mostRecords}
 use Rattle.rules.specs.Run.{Ending, Outcome, valued, spent, full, ended, outcomeOf, oneMore, run}
 use Rattle.rules.proofs.Courses.{course-value, course-spent, course-full, course-more}
-use Rattle.engine.specs.Running.{after, endedAt, Running}
+use Rattle.running.specs.Running.{after, endedAt, Running}
 
 after-none : (o : Outcome) → after 0 o ≡ o
 after-none o = λ i. let e : 0 + o .steps ≡ o .steps = omega arith in record { ending = o .ending; steps = e i; last = o .last }

@@ -1,8 +1,8 @@
--- `engine::finish` meets its contract. Assumes nothing.
-use Rattle.engine.proofs.Finishing.{finishing}
+-- `running::finish` meets its contract. Assumes nothing.
+use Rattle.running.proofs.Finishing.{finishing}
 use borrow.Author.Needs.{needs}
-use Rattle.engine.proofs.finish.Statement.{statement}
-use Rattle.engine.proofs.finish.Tie as tie
+use Rattle.running.proofs.finish.Statement.{statement}
+use Rattle.running.proofs.finish.Tie as tie
 
 pub finish-spec : {M : Type 1} → statement M
 finish-spec =

@@ -10,7 +10,7 @@ use Rattle.rules.specs.Format.{Record}
 use Rattle.rules.specs.Run.{Ending, full, endingNumber, run}
 use Rattle.steps.specs.declared.state.State.{State}
 use Rattle.steps.specs.Stepping.{HoldsTerm, Runs}
-use Rattle.engine.specs.Running.{endedAt, Running}
+use Rattle.running.specs.Running.{endedAt, Running}
 
 -- The state holds a term of a table without like entries, and no step is made.
 pub record CanRun (types : Table) (rs : List Record) (s : State) : Type 0 where

@@ -12,9 +12,9 @@ use Rattle.rules.specs.Format.{Record}
 use Rattle.rules.specs.Run.{valued, spent, full}
 use Rattle.steps.specs.declared.state.State.{State}
 use Rattle.steps.specs.Stepping.{HoldsTerm, Runs, HasTerm, SeeksTerm, CanStep, After, running, too-large, Stepped, TellsValue}
-use Rattle.engine.specs.Running.{Running}
-use Rattle.engine.specs.Looping.{CanRun, Stop, by-fuel, by-value, by-room, Stopped, RunsOut, Concluded, Concludes}
-use Rattle.engine.proofs.Stepping.{run-starts, ends-value, ends-spent, ends-full, goes-on}
+use Rattle.running.specs.Running.{Running}
+use Rattle.running.specs.Looping.{CanRun, Stop, by-fuel, by-value, by-room, Stopped, RunsOut, Concluded, Concludes}
+use Rattle.running.proofs.Stepping.{run-starts, ends-value, ends-spent, ends-full, goes-on}
 
 -- The run of the first term stands where the state is.
 pub record StandsAt (types : Table) (fuel : ℕ) (first : Term) (rs : List Record) (s : State) : Type 0 where

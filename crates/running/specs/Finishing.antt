@@ -9,8 +9,8 @@ use Rattle.rules.specs.Run.{Outcome, endingNumber, run, output, writtenOver, ou
 use Rattle.records.specs.View.{entriesIn}
 use Rattle.steps.specs.declared.state.State.{State}
 use Rattle.steps.specs.Stepping.{HoldsTerm}
-use Rattle.engine.specs.declared.Completion.{Completion}
-use Rattle.engine.specs.Looping.{CanRun}
+use Rattle.running.specs.declared.Completion.{Completion}
+use Rattle.running.specs.Looping.{CanRun}
 
 -- The state holds the first term, the table has as many entries as `types` says, and the output has room for the largest program.
 pub record CanFinish (table : List ℕ) (types : ℕ) (rs : List Record) (s : State) (out : List ℕ) : Type 0 where

@@ -1,13 +1,13 @@
--- `engine::run_steps` meets its contract. The invariant: the run of the first term stands where the state is. The measure is the fuel that is
+-- `running::run_steps` meets its contract. The invariant: the run of the first term stands where the state is. The measure is the fuel that is
 -- left. Assumes nothing.
 use Prim.Native.Nat.{_-_}
 use mathlib.Core.Path.{_≡_}
 use lib.ListN.{length}
 use Rattle.records.specs.View.{entriesIn, recordsIn}
 use borrow.Author.Needs.{needs}
-use Rattle.engine.proofs.Looping.{Going, going-steps, going-stops, going-less, going-on, looping}
-use Rattle.engine.proofs.run_steps.Statement.{statement}
-use Rattle.engine.proofs.run_steps.Tie as tie
+use Rattle.running.proofs.Looping.{Going, going-steps, going-stops, going-less, going-on, looping}
+use Rattle.running.proofs.run_steps.Statement.{statement}
+use Rattle.running.proofs.run_steps.Tie as tie
 
 abbrev Inv-loop : tie.InvT-loop
 Inv-loop table fuel work₀ s₀ work s = (length work ≡ length work₀) × Going (entriesIn table) fuel (recordsIn work₀) (recordsIn work) s₀ s

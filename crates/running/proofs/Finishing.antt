@@ -8,8 +8,8 @@ use Rattle.rules.specs.Run.{run}
 use Rattle.records.specs.View.{entriesIn}
 use Rattle.steps.specs.declared.state.State.{State}
 use Rattle.steps.specs.Output.{CanWriteOut, WritesOut}
-use Rattle.engine.specs.Looping.{RunsOut, Concluded, Concludes}
-use Rattle.engine.specs.Finishing.{CanFinish, Finished, Finishes}
+use Rattle.running.specs.Looping.{RunsOut, Concluded, Concludes}
+use Rattle.running.specs.Finishing.{CanFinish, Finished, Finishes}
 
 module _ (table : List ℕ) (types : ℕ) (rs : List Record) (s : State) (out : List ℕ) (h : CanFinish table types rs s out) (fuel : ℕ) (rs₁ : List Record) (q : State)
     (ro : RunsOut (entriesIn table) fuel rs rs₁ s q) where

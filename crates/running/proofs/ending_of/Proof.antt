@@ -1,8 +1,8 @@
--- `engine::ending_of` meets its contract. Assumes nothing.
-use Rattle.engine.proofs.Looping.{concluding}
+-- `running::ending_of` meets its contract. Assumes nothing.
+use Rattle.running.proofs.Looping.{concluding}
 use borrow.Author.Needs.{needs}
-use Rattle.engine.proofs.ending_of.Statement.{statement}
-use Rattle.engine.proofs.ending_of.Tie as tie
+use Rattle.running.proofs.ending_of.Statement.{statement}
+use Rattle.running.proofs.ending_of.Tie as tie
 
 pub ending-of-spec : {M : Type 1} → statement M
 ending-of-spec =

@@ -1,0 +1,4 @@
+-- The laws of a whole run.
+pub mod Stepping
+pub mod Looping
+pub mod Finishing

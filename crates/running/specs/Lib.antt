@@ -1,0 +1,4 @@
+-- What the contracts of a whole run cite.
+pub mod Running
+pub mod Looping
+pub mod Finishing
