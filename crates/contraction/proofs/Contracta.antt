@@ -7,6 +7,7 @@ use mathlib.Core.Path.{_≡_, refl, ap, sym, _∙_}
 use Rattle.rules.specs.Terms.{Term, size}
 use Rattle.rules.specs.Indices.{replacing, replaced, gaveWay}
 use Rattle.rules.specs.Format.{Record}
+use Rattle.rules.proofs.Shifts.{raised-none}
 use Rattle.terms.specs.Preorder.{preorder, HasTree, Skips}
 use Rattle.terms.proofs.There.{there-put, there-stays}
 use Rattle.terms.proofs.Trees.{length-preorder}
@@ -21,7 +22,6 @@ use Rattle.contraction.specs.declared.plans.Plan.the-variants.{Tree, Bod
 use Rattle.contraction.specs.Plans.{Planned}
 use Rattle.contraction.specs.Making.{Makes, CanMake, Made, MakesBlock}
 use Rattle.contraction.proofs.PlannedForms.{FromBody, planned-itself, planned-body, planned-anew}
-use Rattle.contraction.proofs.Unchanged.{raised-none}
 
 -- A contractum that was written to the free records.
 written-made : {rs : List Record} {plan : Plan} {dst hi end n : ℕ} {u : Term} → Makes rs plan dst hi end n u → (rs′ : List Record) (e k : ℕ) → Written rs rs′ dst u e → k ≡ n

@@ -12,6 +12,7 @@ use Rattle.rules.specs.FreeBounds.{freeBound}
 use Rattle.rules.specs.Format.{Record}
 use Rattle.rules.proofs.KindTable.{kind-back}
 use Rattle.rules.proofs.FreeBounds.{replaced-closed}
+use Rattle.rules.proofs.Shifts.{raised-none}
 use Rattle.terms.specs.Measuring.{KindIs, BoundIs}
 use Rattle.terms.proofs.Trees.{kind-read}
 use Rattle.substitution.specs.declared.arguments.Argument.the-variants.{Tree as TreeAt}
@@ -20,7 +21,7 @@ use Rattle.contraction.specs.declared.plans.Plan.{Plan}
 use Rattle.contraction.specs.declared.plans.Plan.the-variants.{Tree, Body}
 use Rattle.contraction.specs.Plans.{onlyOne, itself, from-body, PlansBody, PlansTree}
 use Rattle.contraction.proofs.Arguments.{tree-stands, one-stands}
-use Rattle.contraction.proofs.Unchanged.{raised-none, closed-replaced}
+use Rattle.contraction.proofs.Unchanged.{closed-replaced}
 
 module _ (rs : List Record) (at : ℕ) (g : Arguments) where
   pub closed-planned : (b : ℕ) → BoundIs rs at b → b ≡ 0 → PlansBody rs at g (Tree at 0)

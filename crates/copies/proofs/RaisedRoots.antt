@@ -1,22 +1,20 @@
 -- The root of a tree whose free indices are raised, and its children. `raising-root` for search.
 use Prim.Native.Nat.{ℕ, _+_, _*_, _≤_, _<_}
 use native.Mathlib.Omega.{arith}
-use native.Mathlib.Nat.{add-zero}
 use mathlib.Core.List.{List}
 use mathlib.Core.Bool.{Bool, true, false}
-use mathlib.Core.Path.{_≡_, refl, sym, ap, ap₂, _∙_}
+use mathlib.Core.Path.{_≡_, refl, sym, ap, _∙_}
 use lib.Dec.{ltb}
 use lib.ListN.{length, getD, set}
 use mir.Syntax.{w16}
 use mir.Val.{Fits}
 use Rattle.rules.specs.Lists.{pick}
-use Rattle.rules.specs.Kinds.{number, variable, matchVariable, matchShape, match, kindNumber, kindOf}
-use Rattle.rules.specs.Binders.{binds₁, binds₃}
+use Rattle.rules.specs.Kinds.{kindNumber, kindOf}
 use Rattle.rules.specs.FieldUses.{uses, useNumber}
-use Rattle.rules.specs.Terms.{Term, leaf, unary, binary, ternary, rootKind, fieldsOf, size}
+use Rattle.rules.specs.Terms.{Term, rootKind, fieldsOf, size}
 use Rattle.rules.specs.FreeBounds.{freeBound}
 use Rattle.rules.specs.Values.{plain}
-use Rattle.rules.specs.Indices.{withIndex, changed, raising, raised, raisedIndex}
+use Rattle.rules.specs.Indices.{withIndex, changed, raising, raisedIndex}
 use Rattle.rules.specs.Format.{Record, noRecord}
 use Rattle.rules.proofs.General.{picked}
 use Rattle.rules.proofs.KindTable.{kind-back}
@@ -36,23 +34,6 @@ size-raised n d t = ap size (raising-shifts n d t) ∙ size-shifted 0 n d t
 
 plain-raised : (n d : ℕ) (t : Term) → plain (changed (raising n) d t) ≡ plain t
 plain-raised n d t = ap plain (raising-shifts n d t) ∙ plain-shifted 0 n d t
-
--- Raising by nothing leaves a tree as it is.
-index-stays : (d i : ℕ) → raisedIndex 0 d i ≡ i
-index-stays d i = picked (λ x. x ≡ i) (ltb i d) (λ _. refl) (λ _. add-zero i)
-
-tree-stays : (d : ℕ) (t : Term) → changed (raising 0) d t ≡ t
-unfolding changed
-tree-stays d (leaf number f) = refl
-tree-stays d (leaf variable f) = rw (index-stays d (f .a))
-tree-stays d (unary k f t) = ap (unary k f) (tree-stays (length (binds₁ k f) + d) t)
-tree-stays d (binary k f t u) = ap₂ (binary k f) (tree-stays d t) (tree-stays d u)
-tree-stays d (ternary (match matchVariable) f t s e) = rw (tree-stays d t, tree-stays (0 + d) s, tree-stays d e, index-stays d (f .a))
-tree-stays d (ternary (match (matchShape k)) f t s e) = rw (tree-stays d t, tree-stays (length (binds₃ (match (matchShape k)) f) + d) s, tree-stays d e)
-
-pub raised-zero : (t : Term) → raised 0 t ≡ t
-unfolding raised
-raised-zero t = tree-stays 0 t
 
 -- The root stays, its index raised.
 pub raise-kept : (n d : ℕ) (t : Term) → Kept (raising n) d t

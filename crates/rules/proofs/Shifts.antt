@@ -1,4 +1,4 @@
--- Raising is shifting, and so is a replacement in which no variable gives way; shifting keeps the form of a tree.
+-- Raising is shifting, and so is a replacement in which no variable gives way; shifting keeps the form of a tree, and by nothing all of it.
 use Prim.Native.Nat.{ℕ, _+_, _-_, _≤_, _<_}
 use native.Mathlib.Omega.{arith}
 use native.Mathlib.Nat.{add-zero, sub-zero}
@@ -13,9 +13,9 @@ use borrow.Author.Tests.{lt-ltb, le-ltb}
 use Rattle.rules.specs.Kinds.{number, variable, Ternary, matchVariable, matchShape, match}
 use Rattle.rules.specs.Terms.{Fields, Term, leaf, unary, binary, ternary, size}
 use Rattle.rules.specs.Binders.{binds₁, binds₃}
-use Rattle.rules.specs.Indices.{Change, withIndex, onFields, changed, raising, loweredIndex, replacing, namesRemoved, summed, gives, gaveWay}
+use Rattle.rules.specs.Indices.{Change, withIndex, onFields, changed, raising, raised, loweredIndex, replacing, namesRemoved, summed, gives, gaveWay}
 use Rattle.rules.specs.Values.{plain}
-use Rattle.rules.specs.Shifts.{shifting, OwnIndex, EachIndex, Unnamed}
+use Rattle.rules.specs.Shifts.{shiftedIndex, shifting, OwnIndex, EachIndex, Unnamed}
 use Rattle.rules.proofs.General.{picked}
 use Rattle.rules.proofs.Moving.{replaced-bound, replaced-beyond}
 
@@ -111,3 +111,23 @@ module _ (down up : ℕ) where
   plain-shifted d (unary k f t) = rw (plain-shifted (length (binds₁ k f) + d) t)
   plain-shifted d (binary k f t u) = rw (plain-shifted d t, plain-shifted d u)
   plain-shifted d (ternary k f t s e) = rw (plain-shifted d t, plain-shifted (length (binds₃ k f) + d) s, plain-shifted d e)
+
+-- Where no binder is removed and none is put there, no index moves.
+index-stays : (d i : ℕ) → shiftedIndex 0 0 d i ≡ i
+index-stays d i = elim (decLt i d) [
+  | yes l ↦ rw (lt-ltb i d l)
+  | no l ↦ rw (le-ltb i d (omega arith), sub-zero i, add-zero i)
+]
+
+pub unshifted : (d : ℕ) (t : Term) → changed (shifting 0 0) d t ≡ t
+unfolding changed
+unshifted d (leaf number f) = refl
+unshifted d (leaf variable f) = rw (index-stays d (f .a))
+unshifted d (unary k f t) = ap (unary k f) (unshifted (length (binds₁ k f) + d) t)
+unshifted d (binary k f t u) = ap₂ (binary k f) (unshifted d t) (unshifted d u)
+unshifted d (ternary (match matchVariable) f t s e) = rw (unshifted d t, unshifted (0 + d) s, unshifted d e, index-stays d (f .a))
+unshifted d (ternary (match (matchShape k)) f t s e) = rw (unshifted d t, unshifted (length (binds₃ (match (matchShape k)) f) + d) s, unshifted d e)
+
+pub raised-none : (t : Term) → raised 0 t ≡ t
+unfolding raised
+raised-none t = raising-shifts 0 0 t ∙ unshifted 0 t

@@ -14,6 +14,7 @@ use Rattle.rules.specs.FreeBounds.{freeBound}
 use Rattle.rules.specs.Indices.{changed, raised, wrapped}
 use Rattle.rules.specs.Format.{Record, noRecord}
 use Rattle.rules.proofs.Laid.{size-some}
+use Rattle.rules.proofs.Shifts.{raised-none}
 use Rattle.rules.proofs.ChangedBounds.{raised-most}
 use Rattle.records.specs.View.{recordsIn}
 use Rattle.records.proofs.Records.{records-length}
@@ -31,7 +32,7 @@ use Rattle.copies.specs.Raising.{RaisingAt, CanRaise, Raises}
 use Rattle.copies.specs.Copying.{CopyAt, CanCopy, Written, Copies, TreeSize, BlockMoved}
 use Rattle.copies.specs.Wrapping.{wrappingUnder, Wrapping}
 use Rattle.substitution.specs.Making.{UnderRoot, CanPutOver, PutsOver, MakingAt, CanCopyArgument, CopiesArgument}
-use Rattle.copies.proofs.RaisedRoots.{size-raised, raised-zero}
+use Rattle.copies.proofs.RaisedRoots.{size-raised}
 use Rattle.terms.proofs.Puts.{put-before}
 use Rattle.copies.proofs.WrappedCopies.{wraps-raised, wrapping-sound}
 
@@ -124,7 +125,7 @@ module _ (rs : List Record) (at dst n : ℕ) where
           let u = h .stands .tree in
           let s = w .is u (h .stands .there) in
           let k : z ≡ length (preorder u) = s ∙ sym (length-preorder u) in
-          rw (e, raised-zero t, h .stands .is) (record { records = q .moved .is ∙ ap (puts rs dst) (ap (part rs at) k ∙ h .stands .there .there .is); end = q .end ∙ ap (λ x. dst + x) s });
+          rw (e, raised-none t, h .stands .is) (record { records = q .moved .is ∙ ap (puts rs dst) (ap (part rs at) k ∙ h .stands .there .there .is); end = q .end ∙ ap (λ x. dst + x) s });
     }
 
     pub tree-does : (rs′ : List Record) → Raises rs rs′ at dst n 0 → CopiesArgument rs rs′ (Tree at) dst n (dst + z)
