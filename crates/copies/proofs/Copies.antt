@@ -16,7 +16,7 @@ use Rattle.rules.specs.Terms.{Fields, Term, leaf, unary, binary, ternary, rootK
 use Rattle.rules.specs.FreeBounds.{freeBound}
 use Rattle.rules.specs.Indices.{Change, withIndex, changed, namesRemoved}
 use Rattle.rules.specs.Format.{Record, noRecord}
-use Rattle.rules.proofs.KindTable.{each-kind, kind-back}
+use Rattle.rules.proofs.KindTable.{kind-back, few-children}
 use Rattle.rules.proofs.Laid.{size-some}
 use Rattle.rules.proofs.FreeBounds.{KeepsLow, changed-low}
 use Rattle.records.specs.View.{recordsIn}
@@ -261,7 +261,7 @@ module _ (M : Way) (m : ℕ) (moved : ℕ → ℕ → ℕ) (S : Sound M m moved)
   turn-tree = record { tree = child (p .tree) j; there = next-copy (p .tree) (p .of) .there }
 
   pub turn-count : Fits w16 (j + 1)
-  turn-count = omega (arith, each-kind (λ k. childCount k ≤ 3) (omega arith) (kindOf k))
+  turn-count = omega (arith, few-children (kindOf k))
 
   module _ (u : ℕ) (b : u ≡ bindersOver (kindOf k) j) where
     pub over : (t : Term) → RootOf M m rs₁ src dst d k t → u ≡ bindersOver (rootKind t) j

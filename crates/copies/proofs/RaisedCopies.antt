@@ -13,7 +13,7 @@ use Rattle.rules.specs.Terms.{Term, rootKind, size}
 use Rattle.rules.specs.FreeBounds.{freeBound}
 use Rattle.rules.specs.Indices.{changed, raising}
 use Rattle.rules.specs.Format.{Record}
-use Rattle.rules.proofs.KindTable.{each-kind, kind-back}
+use Rattle.rules.proofs.KindTable.{kind-back, few-children}
 use Rattle.rules.proofs.Laid.{size-some}
 use Rattle.rules.proofs.FreeBounds.{changed-low, raising-low}
 use Rattle.records.specs.View.{recordsIn}
@@ -193,7 +193,7 @@ module _ (rs₁ : List Record) (src dst n d k : ℕ) (rs : List Record) (at to j
               }
 
   pub turn-count : Fits w16 (j + 1)
-  turn-count = omega (arith, each-kind (λ k. childCount k ≤ 3) (omega arith) (kindOf k))
+  turn-count = omega (arith, few-children (kindOf k))
 
 -- Places and lengths.
 pub raise-from-fits : (s : List ℕ) (src dst n d : ℕ) → CanRaise (recordsIn s) src dst n d → length s < 2 ^ 64 → Fits w64 (src + 1)

@@ -1,9 +1,9 @@
--- The table of kinds: a kind is known by its number, and a number of the table by its kind.
+-- The table of kinds: a kind is known by its number, and a number of the table by its kind; what holds of all.
 use Prim.Native.Nat.{_≤_}
 use native.Mathlib.Omega.{arith}
 use mathlib.Core.Path.{_≡_, refl}
 use Rattle.rules.specs.Lists.{All}
-use Rattle.rules.specs.Kinds.{number, variable, function, fix, lift, quote, splice, application, matchNumber, matchApplication, matchLift, matchFunction, matchFix, matchVariable, matchShape, Kind, leaf₀, unary₁, binary₂, ternary₃, kindNumber, highestKind, kinds, numbered, kindOf, match}
+use Rattle.rules.specs.Kinds.{number, variable, function, fix, lift, quote, splice, application, matchNumber, matchApplication, matchLift, matchFunction, matchFix, matchVariable, matchShape, Kind, leaf₀, unary₁, binary₂, ternary₃, kindNumber, highestKind, kinds, numbered, kindOf, childCount, match}
 use Rattle.rules.proofs.General.{_&_}
 
 -- What holds of the listed kinds holds of every kind; so a kind is known by its number.
@@ -29,3 +29,6 @@ kind-back = each-kind (λ k. kindOf (kindNumber k) ≡ k) (refl & refl & refl & 
 
 pub kind-range : (k : Kind) → (1 ≤ kindNumber k) × (kindNumber k ≤ highestKind)
 kind-range = each-kind (λ k. (1 ≤ kindNumber k) × (kindNumber k ≤ highestKind)) (omega arith)
+
+pub few-children : (k : Kind) → childCount k ≤ 3
+few-children = each-kind (λ k. childCount k ≤ 3) (omega arith)

@@ -15,7 +15,7 @@ use Rattle.rules.specs.Kinds.{variable, childCount, kindOf}
 use Rattle.rules.specs.Terms.{Fields, Term, leaf, rootKind, size}
 use Rattle.rules.specs.Indices.{namesRemoved, summed}
 use Rattle.rules.specs.Format.{Record, noRecord}
-use Rattle.rules.proofs.KindTable.{each-kind}
+use Rattle.rules.proofs.KindTable.{few-children}
 use Rattle.rules.proofs.Laid.{size-some}
 use Rattle.records.specs.View.{recordsIn}
 use Rattle.records.proofs.Records.{records-length}
@@ -99,7 +99,7 @@ module _ (m : ℕ) (rs : List Record) (src d k at j : ℕ) (p : Walking m rs src
   walk-tree = record { tree = child (p .tree) j; there = next-turn (p .tree) (p .of) .there }
 
   pub walk-count : Fits w16 (j + 1)
-  walk-count = omega (arith, each-kind (λ k. childCount k ≤ 3) (omega arith) (kindOf k))
+  walk-count = omega (arith, few-children (kindOf k))
 
   pub walk-next : (end : ℕ) → Skips rs at end → Walking m rs src d k end (j + 1)
   walk-next end sk = record { all = λ t q. let v = next-turn t q in rw (sk .is (child t j) (v .there)) (v .next); tree = p .tree; of = p .of; deep = p .deep }

@@ -17,7 +17,7 @@ use Rattle.rules.specs.FieldUses.{uses, useNumber}
 use Rattle.rules.specs.FreeBounds.{ownBound, freeBound}
 use Rattle.rules.specs.Values.{plainKind, plain}
 use Rattle.rules.specs.Format.{Record, noRecord}
-use Rattle.rules.proofs.KindTable.{each-kind, kind-back}
+use Rattle.rules.proofs.KindTable.{each-kind, kind-back, few-children}
 use Rattle.records.specs.View.{recordsIn, RecordPut}
 use Rattle.records.proofs.Records.{records-length}
 use Rattle.terms.specs.Children.{kids, sizes, preorders}
@@ -213,7 +213,7 @@ module _ (rs : List Record) (i k : ℕ) (m : Measure) (j c : ℕ) (r : Joining r
   turn-tree l = let q = turn l (r .tree) (r .rooted) in record { tree = q .child; there = q .there }
 
   pub turn-count : j < c → Fits w16 (j + 1)
-  turn-count l = omega (arith, each-kind (λ k. childCount k ≤ 3) (omega arith) (kindOf k))
+  turn-count l = omega (arith, few-children (kindOf k))
 
   pub turn-next : (o : ℕ) (m′ : Measure) → j < c → o ≡ bindersOver (kindOf k) j → Joins rs m o m′ → Joining rs i k m′ (j + 1)
   turn-next o m′ l b w = record { all = λ t g. (r .all t g .0, next t g); tree = r .tree; rooted = r .rooted }

@@ -11,7 +11,7 @@ use Rattle.rules.specs.Kinds.{childCount}
 use Rattle.rules.specs.Terms.{Term, size}
 use Rattle.rules.specs.Typing.{firstLevel}
 use Rattle.rules.specs.Format.{Record}
-use Rattle.rules.proofs.KindTable.{each-kind}
+use Rattle.rules.proofs.KindTable.{few-children}
 use Rattle.rules.proofs.Laid.{size-some}
 use Rattle.terms.specs.Children.{sizes, preorders}
 use Rattle.contexts.specs.Contexts.{Frame, fill, frameKind, childrenBefore, childrenAfter, holeNumber, Context, plug, levelAt, leftSize}
@@ -26,7 +26,7 @@ use Rattle.zipper.proofs.Rows.{children-counted}
 
 -- The hole is one of three children at most.
 hole-few : (F : Frame) → holeNumber F ≤ 2
-hole-few F = omega (arith, children-counted F, each-kind (λ k. childCount k ≤ 3) (omega arith) (frameKind F))
+hole-few F = omega (arith, children-counted F, few-children (frameKind F))
 
 -- `child_towards`: the children before the hole from `at` on are left, then the one in it.
 record Passing (rs : List Record) (first at j : ℕ) (F : Frame) (v : Term) : Type 0 where
