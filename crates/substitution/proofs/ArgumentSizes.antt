@@ -1,5 +1,5 @@
 -- `argument_size`: the size of what an argument stands for. `measuring` for search.
-use Prim.Native.Nat.{ℕ, _+_}
+use Prim.Native.Nat.{ℕ, _+_, _*_, _≤_}
 use native.Mathlib.Omega.{arith}
 use mathlib.Core.List.{List}
 use mathlib.Core.Bool.{Bool, true, false}
@@ -7,7 +7,7 @@ use mathlib.Core.Path.{_≡_, refl, sym, ap, _∙_}
 use lib.Dec.{eqb}
 use mir.Syntax.{w64}
 use mir.Val.{Fits}
-use Rattle.rules.specs.Terms.{size}
+use Rattle.rules.specs.Terms.{Term, size}
 use Rattle.rules.specs.Indices.{wrapping, wrapped}
 use Rattle.rules.specs.Format.{Record}
 use Rattle.terms.specs.Preorder.{HasTree}
@@ -15,8 +15,8 @@ use Rattle.substitution.specs.declared.arguments.Argument.{Argument}
 use Rattle.substitution.specs.declared.arguments.Argument.the-variants.{Tree, Quote, Opened}
 use Rattle.substitution.specs.Arguments.{placeOf, described}
 use Rattle.copies.specs.Copying.{TreeSize}
-use Rattle.substitution.specs.Counting.{weight, sizeAfter, CanCount, CountsSize, HasArgument, Measures}
-use Rattle.substitution.proofs.Sums.{Weighs, changed-size}
+use Rattle.substitution.specs.Counting.{weight, sizeAfter, CanCount, CountsSize, HasArgument, Measures, Bounds}
+use Rattle.substitution.proofs.Sums.{Weighs, changed-size, summed-most, weight-most}
 use Rattle.substitution.proofs.SizesAfter.{after-most}
 use Rattle.copies.proofs.WrappedCopies.{names-one}
 
@@ -29,6 +29,14 @@ wrapping-weighs code d f = go (eqb (f .a) d) refl
     go true e = rw (names-one d (f .a)) (rw e)
     go false e = rw (names-one d (f .a)) (rw e)
 
+-- What an argument stands for is at most twice its tree, and two records more.
+pub described-most : (g : Argument) (u : Term) → size (described g u) ≤ 2 + 2 * size u
+unfolding described size wrapped
+described-most (Tree at) u = omega arith
+described-most (Quote at ty) u = omega arith
+described-most (Opened at ty a b) u =
+    omega (arith, changed-size (wrapping a) (weight 1 2 2) (wrapping-weighs a) 0 u, summed-most (weight 1 2 2) 1 2 (omega arith) (weight-most 1 2 2 2 (omega arith) (omega arith) (omega arith)) 0 u)
+
 -- What is known of an argument's tree, by the argument's form.
 module _ (rs : List Record) (g : Argument) (h : HasArgument rs g) where
   pub tree-tree : (at : ℕ) → g ≡ Tree at → HasTree rs at
@@ -38,6 +46,10 @@ module _ (rs : List Record) (g : Argument) (h : HasArgument rs g) where
   pub quote-tree : (at ty : ℕ) → g ≡ Quote at ty → HasTree rs at
   unfolding placeOf
   quote-tree at ty e = record { tree = h .stands .tree; there = rw e at (h .stands .there) }
+
+  pub opened-tree : (at ty a b : ℕ) → g ≡ Opened at ty a b → HasTree rs at
+  unfolding placeOf
+  opened-tree at ty a b e = record { tree = h .stands .tree; there = rw e at (h .stands .there) }
 
   pub opened-counts : (at ty a b : ℕ) → g ≡ Opened at ty a b → CanCount rs at 0 2 2
   unfolding placeOf
@@ -74,4 +86,34 @@ module _ (rs : List Record) (g : Argument) (n : ℕ) where
     is = λ lo hi t s. omega (arith, w .is (s .tree) (s .there), changed-size (wrapping a) (weight 1 2 2) (wrapping-weighs a) 0 (s .tree), ap size (s .is));
   })
 
-pub ruleset measuring = (tree-tree, quote-tree, opened-counts, quote-fits, opened-fits, tree-measured, quote-measured, opened-measured)
+  -- And a bound of it, by the size n of its tree.
+  pub tree-bounds : HasArgument rs g → (at : ℕ) → g ≡ Tree at → TreeSize rs at n → Bounds rs g n
+  unfolding placeOf described
+  tree-bounds h at e w = rw e (record {
+    most = λ lo hi t s. omega (arith, w .is (s .tree) (s .there), ap size (s .is));
+    small = omega (arith, w .is (h .stands .tree) (rw e at (h .stands .there)), h .small);
+  })
+
+  pub quote-bounds : HasArgument rs g → (at ty : ℕ) → g ≡ Quote at ty → TreeSize rs at n → Bounds rs g (1 + n)
+  unfolding placeOf described size
+  quote-bounds h at ty e w = rw e (record {
+    most = λ lo hi t s. omega (arith, w .is (s .tree) (s .there), ap size (s .is));
+    small = omega (arith, w .is (h .stands .tree) (rw e at (h .stands .there)), h .small);
+  })
+
+  pub opened-bounds : HasArgument rs g → (at ty a b : ℕ) → g ≡ Opened at ty a b → TreeSize rs at n → Bounds rs g (2 + 2 * n)
+  unfolding placeOf
+  opened-bounds h at ty a b e w = rw e (record {
+    most = λ lo hi t s. omega (arith, w .is (s .tree) (s .there), ap size (s .is), described-most (Opened at ty a b) (s .tree));
+    small = omega (arith, w .is (h .stands .tree) (rw e at (h .stands .there)), h .small);
+  })
+
+  pub doubled-fits : HasArgument rs g → (at ty a b : ℕ) → g ≡ Opened at ty a b → TreeSize rs at n → Fits w64 (2 * n)
+  unfolding placeOf
+  doubled-fits h at ty a b e w = omega (arith, w .is (h .stands .tree) (rw e at (h .stands .there)), h .small)
+
+  pub doubled-two-fits : HasArgument rs g → (at ty a b : ℕ) → g ≡ Opened at ty a b → TreeSize rs at n → Fits w64 (2 + 2 * n)
+  unfolding placeOf
+  doubled-two-fits h at ty a b e w = omega (arith, w .is (h .stands .tree) (rw e at (h .stands .there)), h .small)
+
+pub ruleset measuring = (tree-tree, quote-tree, opened-tree, opened-counts, quote-fits, opened-fits, tree-measured, quote-measured, opened-measured, tree-bounds, quote-bounds, opened-bounds, doubled-fits, doubled-two-fits)

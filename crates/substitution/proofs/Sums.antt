@@ -5,9 +5,11 @@ use native.Mathlib.Nat.{add-comm, add-zero, mul-one, mul-add}
 use native.Mathlib.Numerals.{add-one}
 use native.Mathlib.Omega.{arith}
 use mathlib.Core.List.{List, [], _∷_}
+use mathlib.Core.Bool.{Bool, true, false}
 use mathlib.Core.Path.{_≡_, refl, sym, _∙_}
 use lib.Dec.{eqb}
 use lib.ListN.{length}
+use Rattle.rules.specs.Lists.{pick}
 use Rattle.rules.specs.Kinds.{number, variable, Kind, unary₁, ternary₃, childCount}
 use Rattle.rules.specs.Terms.{Fields, Term, leaf, unary, binary, ternary, rootKind, size}
 use Rattle.rules.specs.Binders.{binds₁, binds₃, bindersFirst, bindersSecond}
@@ -103,6 +105,22 @@ summed-most v o b p q d (ternary k f t s e) =
       summed-most v o b p q (length (binds₃ k f) + d) s,
       summed-most v o b p q d e,
     )
+
+-- Where each variable counts more, so does the tree.
+pub summed-more : (v u : ℕ → ℕ → ℕ) (o : ℕ) → ((d i : ℕ) → v d i ≤ u d i) → (d : ℕ) (t : Term) → summed v o d t ≤ summed u o d t
+unfolding summed
+summed-more v u o h d (leaf number f) = omega arith
+summed-more v u o h d (leaf variable f) = h d (f .a)
+summed-more v u o h d (unary k f t) = omega (arith, summed-more v u o h (length (binds₁ k f) + d) t)
+summed-more v u o h d (binary k f t w) = omega (arith, summed-more v u o h d t, summed-more v u o h d w)
+summed-more v u o h d (ternary k f t s e) = omega (arith, summed-more v u o h d t, summed-more v u o h (length (binds₃ k f) + d) s, summed-more v u o h d e)
+
+pub weight-more : (m n k n′ k′ : ℕ) → n ≤ n′ → k ≤ k′ → (d i : ℕ) → weight m n k d i ≤ weight m n′ k′ d i
+weight-more m n k n′ k′ p q d i = picked-both (namesRemoved m d i) (picked-both (eqb i d) p q) (omega arith)
+  where
+    picked-both : (b : Bool) {x y x′ y′ : ℕ} → x ≤ x′ → y ≤ y′ → pick b x y ≤ pick b x′ y′
+    picked-both true p q = p
+    picked-both false p q = q
 
 pub weight-most : (m first second b : ℕ) → 1 ≤ b → first ≤ b → second ≤ b → (d i : ℕ) → weight m first second d i ≤ b
 weight-most m first second b o p q d i =

@@ -1,5 +1,5 @@
 -- Arguments: which term each stands for, and where its tree is read.
-use Prim.Native.Nat.{ℕ, _+_, _<_, _≤_}
+use Prim.Native.Nat.{ℕ, _<_, _≤_}
 use mathlib.Core.List.{List}
 use mathlib.Core.Path.{_≡_}
 use lib.ListN.{length, getD}

@@ -4,7 +4,7 @@ use Prim.Native.Nat.{ℕ, _+_, _*_, _<_, _≤_}
 use mathlib.Core.List.{List}
 use mathlib.Core.Bool.{Bool}
 use mathlib.Core.Path.{_≡_}
-use lib.Dec.{eqb, leb}
+use lib.Dec.{T, eqb, leb}
 use Rattle.rules.specs.Lists.{pick}
 use Rattle.rules.specs.Terms.{Term, size}
 use Rattle.rules.specs.Indices.{replaced, namesRemoved, summed}
@@ -44,6 +44,11 @@ pub record HasArgument (rs : List Record) (g : Argument) : Type 0 where
 pub record Measures (rs : List Record) (g : Argument) (n : ℕ) : Type 0 where
   pub is : (lo hi : ℕ) (t : Term) → StandsFor rs lo hi g t → n ≡ size t
 
+-- n is not below it, and no more than a copy can have.
+pub record Bounds (rs : List Record) (g : Argument) (n : ℕ) : Type 0 where
+  pub most : (lo hi : ℕ) (t : Term) → StandsFor rs lo hi g t → size t ≤ n
+  pub small : n ≤ 65535
+
 -- A tree stands at `at`, and the arguments stand for terms; all trees are small.
 pub record CanFit (rs : List Record) (at : ℕ) (g : Arguments) : Type 0 where
   pub lo : ℕ
@@ -60,6 +65,15 @@ pub record MeasuresSecond (rs : List Record) (g : Arguments) (n : ℕ) : Type 0 
   pub there : 1 < g .count → Measures rs (g .second) n
   pub none : g .count ≤ 1 → n ≡ 0
 
+-- n bounds it so, or is 0.
+pub record BoundsSecond (rs : List Record) (g : Arguments) (n : ℕ) : Type 0 where
+  pub there : 1 < g .count → Bounds rs (g .second) n
+  pub none : g .count ≤ 1 → n ≡ 0
+
 -- b tells whether the tree at `at`, with its variables replaced, has at most `room` records.
 pub record TellsRoom (rs : List Record) (at : ℕ) (g : Arguments) (room : ℕ) (b : Bool) : Type 0 where
   pub is : (lo hi : ℕ) (t : Term) (ts : List Term) → At rs at t → StandForAll rs lo hi g ts → b ≡ leb (size (replaced ts t)) room
+
+-- Where b is true, it has.
+pub record TellsSurely (rs : List Record) (at : ℕ) (g : Arguments) (room : ℕ) (b : Bool) : Type 0 where
+  pub fits : (lo hi : ℕ) (t : Term) (ts : List Term) → At rs at t → StandForAll rs lo hi g ts → T b → size (replaced ts t) ≤ room

@@ -9,7 +9,7 @@ ghost use mathlib.Core.Path.{_≡_};
 ghost use Prim.Native.Nat.{max};
 ghost use Rattle.rules.specs.Lists.{pick};
 ghost use Rattle.records.specs.View.{recordsIn};
-ghost use Rattle.substitution.specs.Counting.{CanCount, CountsSize, HasArgument, Measures, CanFit, MeasuresSecond, TellsRoom};
+ghost use Rattle.substitution.specs.Counting.{CanCount, CountsSize, HasArgument, Measures, Bounds, CanFit, MeasuresSecond, BoundsSecond, TellsRoom, TellsSurely};
 
 // What counts for the variable of the innermost removed binder, or for another.
 fn chosen_size(first: usize, second: usize, inner: bool) -> usize
@@ -77,17 +77,57 @@ fn larger(x: usize, y: usize) -> usize
     if x < y { y } else { x }
 }
 
-// Whether the tree at `at` has at most `room` records once its variables are replaced by what the arguments stand for. None of its records makes
-// more than the larger of these has: where there is room for so many, nothing is counted.
+// A number that is not below the size of the term that an argument stands for. Wrapping at most doubles a tree, so nothing is counted.
+fn argument_most(w: &[u8], g: Argument) -> usize
+    requires { ⌜ HasArgument (recordsIn (now w)) g ⌝ }
+    ensures { λ n. ⌜ Bounds (recordsIn (now (w .entry))) g n ⌝ }
+{
+    match g {
+        Argument::Tree(at) => tree_size(w, at),
+        Argument::Quote(at, ty) => 1 + tree_size(w, at),
+        Argument::Opened(at, ty, a, b) => 2 + 2 * tree_size(w, at),
+    }
+}
+
+// The same for what stands for index 1, or 0 where one variable is replaced.
+fn second_most(w: &[u8], at: usize, g: Arguments) -> usize
+    requires { ⌜ CanFit (recordsIn (now w)) at g ⌝ }
+    ensures { λ n. ⌜ BoundsSecond (recordsIn (now (w .entry))) g n ⌝ }
+{
+    if 1 < g.count {
+        let second = g.second;
+        argument_most(w, second)
+    } else {
+        0
+    }
+}
+
+// Whether the tree at `at` has room, without counting what the arguments stand for: none of its records makes more than the larger of the bounds of
+// these, and no variable more than its own.
+fn surely_fits(w: &[u8], at: usize, g: Arguments, room: usize) -> bool
+    requires { ⌜ CanFit (recordsIn (now w)) at g ⌝ }
+    ensures { λ b. ⌜ TellsSurely (recordsIn (now (w .entry))) at g room b ⌝ }
+{
+    let inner = g.first;
+    let first = argument_most(w, inner);
+    let second = second_most(w, at, g);
+    if tree_size(w, at) * larger(first, second) <= room {
+        return true;
+    }
+    size_after(w, at, 0, g.count, first, second) <= room
+}
+
+// Whether the tree at `at` has at most `room` records once its variables are replaced by what the arguments stand for. They are counted only where
+// their bounds leave it open.
 pub fn replaced_fits(w: &[u8], at: usize, g: Arguments, room: usize) -> bool
     requires { ⌜ CanFit (recordsIn (now w)) at g ⌝ }
     ensures { λ b. ⌜ TellsRoom (recordsIn (now (w .entry))) at g room b ⌝ }
 {
+    if surely_fits(w, at, g, room) {
+        return true;
+    }
     let inner = g.first;
     let first = argument_size(w, inner);
     let second = second_size(w, at, g);
-    if tree_size(w, at) * larger(first, second) <= room {
-        return true;
-    }
     size_after(w, at, 0, g.count, first, second) <= room
 }

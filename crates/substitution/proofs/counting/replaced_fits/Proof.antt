@@ -7,12 +7,10 @@ use Rattle.substitution.proofs.counting.replaced_fits.Tie as tie
 pub replaced-fits-spec : {M : Type 1} → statement M
 replaced-fits-spec =
     tie.close (tie.spec
+    (λ c κs. search (fitting, needs))  -- surely-fits-requires
+    (λ c. search (fitting, needs))  -- returns
     (λ c κs. search (fitting, needs))  -- argument-size-requires
     (λ c κs. search (fitting, needs))  -- second-size-requires
-    (λ c κs. search (fitting, needs))  -- tree-size-requires
-    (λ c κs. search (fitting, needs))  -- larger-requires
-    (λ c. search (fitting, needs))  -- mul-if1
-    (λ c. search (fitting, needs))  -- returns
     (λ c κs. search (fitting, needs))  -- size-after-requires
     (λ c. search (fitting, needs))  -- returns-2
     )
