@@ -22,24 +22,24 @@ use Rattle.records.specs.Places.{IsEntry}
 use Rattle.fields.specs.BitSets.{member, Inserted}
 use Rattle.fields.specs.Noting.{parts, Noted, CanNote, Notes, CanScanTable}
 
--- The kind of a good entry is known by its parts, which are below 256.
+-- The kind of a good entry is known by its parts, which are below its number, and so below 256.
 abbrev kindBy : ℕ → ℕ → ℕ
 kindBy a b = pick (eqb b 0) (pick (eqb a 0) 1 3) 2
 
-record Known (x : Entry) : Type 0 where
+record Known (n : ℕ) (x : Entry) : Type 0 where
   kind-by : x .kind ≡ kindBy (x .a) (x .b)
-  low-a : x .a < 256
+  low-a : x .a < n
   low-b : x .b < 256
 
-known : (n : ℕ) (x : Entry) → n ≤ 256 → Holds (kindRule n x) → Known x
-known n x few h = kind-cases n x h
+known : (n : ℕ) (x : Entry) → 1 ≤ n → n ≤ 256 → Holds (kindRule n x) → Known n x
+known n x some few h = kind-cases n x h
     (λ e. rw e (record { kind-by = refl; low-a = omega arith; low-b = omega arith }))
     (λ k p q. let (s, (t, _)) = (rw k at h) in record { kind-by = rw (ne-eqb (x .b) 0 (λ z. omega arith)) k; low-a = omega arith; low-b = omega arith })
     (λ k p q. let (_, (s, _)) = (rw k at h) in record { kind-by = rw (q, ne-eqb (x .a) 0 (λ z. omega arith)) k; low-a = omega arith; low-b = omega arith })
 
 -- So good entries are the same where their parts are.
-same-parts : (x y : Entry) → Known x → Known y → sameEntry x y ≡ eqb (parts x) (parts y)
-same-parts x y p q = elim (ℕ-discrete (parts x) (parts y)) [
+same-parts : (n m : ℕ) (x y : Entry) → Known n x → Known m y → sameEntry x y ≡ eqb (parts x) (parts y)
+same-parts n m x y p q = elim (ℕ-discrete (parts x) (parts y)) [
   | yes e ↦
       let ea : x .a ≡ y .a = omega arith in
       let eb : x .b ≡ y .b = omega arith in
@@ -69,7 +69,7 @@ module _ (types : Table) (seen : List ℕ) (n : ℕ) (c : CanNote types seen n) 
   alike-counted : Holds (kindRule n (entry types n)) → alike types n ≡ member seen (parts (entry types n))
   alike-counted h =
       total-ext _ _ 1 (n - 1) (λ m i j. ap (λ b. pick {A = ℕ} b 1 0)
-      (same-parts (entry types m) (entry types n) (known m (entry types m) (omega (arith, c .few)) (c .noted .kinds m i (omega arith))) (known n (entry types n) (c .few) h)))
+      (same-parts m n (entry types m) (entry types n) (known m (entry types m) i (omega (arith, c .few)) (c .noted .kinds m i (omega arith))) (known n (entry types n) (c .within .some) (c .few) h)))
       ∙ sym (c .noted .counted (parts (entry types n)))
 
   module _ (e : Read) (i : IsEntry types n e) (b : Bool) (t : b ≡ holds (kindRule n (entryMeant e))) where
@@ -90,7 +90,7 @@ module _ (types : Table) (seen : List ℕ) (n : ℕ) (c : CanNote types seen n) 
       same-number = ap parts (i .is)
 
       pub has-room : 256 * e .a + e .b < 64 * length seen
-      has-room = let q = known n (entry types n) (c .few) good in omega (arith, same-number, q .low-a, q .low-b, c .room)
+      has-room = let q = known n (entry types n) (c .within .some) (c .few) good in omega (arith, same-number, q .low-a, q .low-b, c .room)
 
       pub note-told : (after : List ℕ) (r : Bool) → Inserted seen after (256 * e .a + e .b) r → Notes types after n r
       note-told after r s = record {
@@ -105,18 +105,25 @@ module _ (types : Table) (seen : List ℕ) (n : ℕ) (c : CanNote types seen n) 
         };
       }
 
--- The scan: its start with the empty set, and the next entry.
+-- The scan: an empty set that is large enough, its start, and the next entry.
+module _ (types : Table) (seen : List ℕ) (count : ℕ) (e : length types ≡ count) where
+  pub few-scanned : count ≤ 64 → seen ≡ replicate 256 0 → CanScanTable types seen count
+  few-scanned l z = record { counted = e; few = omega arith; words = 256; empty = z; room = omega arith }
+
+  pub many-scanned : count ≤ 256 → seen ≡ replicate 1024 0 → CanScanTable types seen count
+  many-scanned l z = record { counted = e; few = l; words = 1024; empty = z; room = omega arith }
+
 module _ (types : Table) (seen : List ℕ) (count : ℕ) where
   pub noted-none : CanScanTable types seen count → Noted types seen 0
   unfolding total member
-  noted-none c = record { kinds = λ m p q. absurd (omega arith); counted = λ k. rw (c .empty, zeros 1024 (k / 64)) (ap (λ x. x % 2) (zero-div (2 ^ (k % 64)))) }
+  noted-none c = record { kinds = λ m p q. absurd (omega arith); counted = λ k. rw (c .empty, zeros (c .words) (k / 64)) (ap (λ x. x % 2) (zero-div (2 ^ (k % 64)))) }
 
   module _ (n : ℕ) (c : CanScanTable types seen count) (h : n < count) where
     pub next-noted : (now : List ℕ) → length now ≡ length seen → Noted types now n → CanNote types now (n + 1)
     next-noted now l p = let e : n + 1 - 1 ≡ n = omega arith in record {
       within = record { some = omega arith; most = omega (arith, c .counted) };
       few = omega (arith, c .few);
-      room = l ∙ ap length (c .empty) ∙ length-replicate {A = ℕ} 1024 0;
+      room = omega (arith, l, ap length (c .empty), length-replicate {A = ℕ} (c .words) 0, c .room);
       noted = rw e p;
     }
 

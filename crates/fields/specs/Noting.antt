@@ -25,7 +25,7 @@ pub record Noted (types : Table) (seen : List ℕ) (n : ℕ) : Type 0 where
 pub record CanNote (types : Table) (seen : List ℕ) (n : ℕ) : Type 0 where
   pub within : Within types n
   pub few : n ≤ 256
-  pub room : length seen ≡ 1024
+  pub room : 4 * n ≤ length seen
   pub noted : Noted types seen (n - 1)
 
 -- r is whether entry n is good, and where it is, it is noted.
@@ -33,8 +33,10 @@ pub record Notes (types : Table) (after : List ℕ) (n : ℕ) (r : Bool) : Type 
   pub told : r ≡ holds (entryRule types n)
   pub noted : r ≡ true → Noted types after n
 
--- A table of up to 256 entries can be scanned with the empty set.
+-- A table of up to 256 entries can be scanned with an empty set of four words for each.
 pub record CanScanTable (types : Table) (seen : List ℕ) (count : ℕ) : Type 0 where
   pub counted : length types ≡ count
   pub few : count ≤ 256
-  pub empty : seen ≡ replicate 1024 0
+  pub words : ℕ
+  pub empty : seen ≡ replicate words 0
+  pub room : 4 * count ≤ words

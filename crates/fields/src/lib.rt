@@ -132,14 +132,18 @@ fn set_refusal(table: &[u8], seen: &mut [u64], types: u16) -> Verdict
     refusals::no_refusal()
 }
 
-// Refusal 6: the lowest entry that is bad. Few entries are sooner compared each with each than a set is cleared, and the set has no place for the
-// parts of more than 256.
+// Refusal 6: the lowest entry that is bad. Few entries are sooner compared each with each than a set is cleared, more have a set of their size, and
+// none has a place for the parts of more than 256.
 pub fn entries_refusal(table: &[u8], types: u16) -> Verdict
     requires { ⌜ length (entriesIn (now table)) ≡ types ⌝ }
     ensures { λ r. ⌜ Tells r (lowest (entryRule (entriesIn (now (table .entry)))) badEntry 1 types) ⌝ }
 {
     match types {
-        17..=256 => {
+        17..=64 => {
+            let mut few = [0u64; 256];
+            set_refusal(table, &mut few, types)
+        }
+        65..=256 => {
             let mut seen = [0u64; 1024];
             set_refusal(table, &mut seen, types)
         }
