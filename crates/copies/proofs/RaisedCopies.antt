@@ -76,7 +76,10 @@ record LeftOf (rs₁ : List Record) (src dst n d : ℕ) (rs : List Record) (at t
   same : length rs ≡ length rs₁
   written : puts rs to (preorders (changedChildren (raising n) d (rootKind t) j (after t j))) ≡ puts rs₁ (dst + 1) (preorders (changedChildren (raising n) d (rootKind t) 0 (kids t)))
 
-pub record Raising (rs₁ : List Record) (src dst n d k : ℕ) (rs : List Record) (at to j : ℕ) : Type 0 where
+-- The loop over the c children, of which those before j are copied.
+pub record Raising (rs₁ : List Record) (src dst n d k c : ℕ) (rs : List Record) (at to j : ℕ) : Type 0 where
+  count : c ≡ childCount (kindOf k)
+  short : length rs₁ < 2 ^ 60
   all : (t : Term) → KidsAt rs₁ src dst n d k t → LeftOf rs₁ src dst n d rs at to j t
   tree : Term
   kids : KidsAt rs₁ src dst n d k tree
@@ -102,98 +105,107 @@ module _ (rs rs₁ : List Record) (src dst n d b k : ℕ) (p : BoundIs rs src b)
         deep = h .deep;
       }
 
-  pub raise-starts : CanRaise rs src dst n d → Raising rs₁ src dst n d k rs₁ (src + 1) (dst + 1) 0
+  pub raise-starts : (c : ℕ) → c ≡ childCount (kindOf k) → length rs < 2 ^ 60 → CanRaise rs src dst n d → Raising rs₁ src dst n d k c rs₁ (src + 1) (dst + 1) 0
   unfolding after
-  raise-starts h = record {
+  raise-starts c o b h = record {
+    count = o;
+    short = omega (arith, b, ap length (root-is (h .tree) (h .raises)) ∙ length-set rs dst _);
     all = λ t g. record { row = row-starts rs₁ src t (g .children); place = omega (arith, kids-sizes t); same = refl; written = refl };
     tree = h .tree;
     kids = kids-at (h .tree) (h .raises);
   }
 
-  pub raise-ends : (rs′ : List Record) (at to j c : ℕ) → Raising rs₁ src dst n d k rs′ at to j → c ≡ childCount (kindOf k) → c ≤ j → Raises rs rs′ src dst n d
+  pub raise-ends : (rs′ : List Record) (at to j c : ℕ) → Raising rs₁ src dst n d k c rs′ at to j → c ≤ j → Raises rs rs′ src dst n d
   unfolding puts preorders changedChildren
-  raise-ends rs′ at to j c r e q = record { does = λ t h. told t h (kids-at t h) }
+  raise-ends rs′ at to j c r q = record { does = λ t h. told t h (kids-at t h) }
     where
       told : (t : Term) → RaisingAt rs src dst n d t → KidsAt rs₁ src dst n d k t → rs′ ≡ puts rs dst (preorder (changed (raising n) d t))
       told t h g =
           let i : rs′ ≡ puts rs₁ (dst + 1) (preorders (changedChildren (raising n) d (rootKind t) 0 (kids t))) =
-          rw (none-after t j (omega (arith, e ∙ ap childCount (g .kind)))) at (r .all t g .written) in
+          rw (none-after t j (omega (arith, r .count ∙ ap childCount (g .kind)))) at (r .all t g .written) in
           i ∙ (rw (root-is t h, preorder-kids (changed (raising n) d t), raise-kept n d t .children))
 
--- A turn of the loop.
-module _ (rs₁ : List Record) (src dst n d k : ℕ) (rs : List Record) (at to j c : ℕ) (r : Raising rs₁ src dst n d k rs at to j) (e : c ≡ childCount (kindOf k)) (l : j < c) where
-  module _ (t : Term) (g : KidsAt rs₁ src dst n d k t) where
-    next-one : j < childCount (rootKind t)
-    next-one = omega (arith, e ∙ ap childCount (g .kind))
+-- A turn of the loop. What the code computes (the next n, depth and place) is a premise of its own, an equation: so `search` compares no sums of
+-- numbers of the state.
+module _ (rs₁ : List Record) (src dst n d k c : ℕ) (rs : List Record) (at to j : ℕ) (r : Raising rs₁ src dst n d k c rs at to j) where
+  module _ (l : j < c) where
+    module _ (t : Term) (g : KidsAt rs₁ src dst n d k t) where
+      next-one : j < childCount (rootKind t)
+      next-one = omega (arith, r .count ∙ ap childCount (g .kind))
 
-    next-turn : Turn rs src at j t
-    next-turn = row-turn rs src at j t (r .all t g .row) next-one
+      next-turn : Turn rs src at j t
+      next-turn = row-turn rs src at j t (r .all t g .row) next-one
 
-    next-place : to + (size (child t j) + sizes (after t (j + 1))) ≡ dst + size t
-    unfolding sizes
-    next-place = rw (child-split t j next-one) at (r .all t g .place)
+      next-place : to + (size (child t j) + sizes (after t (j + 1))) ≡ dst + size t
+      unfolding sizes
+      next-place = rw (child-split t j next-one) at (r .all t g .place)
 
-    next-raising : RaisingAt rs at to n (d + bindersOver (rootKind t) j) (child t j)
-    next-raising =
-        let q = r .all t g in
-        let v = next-turn .next .from in
-        record {
-          there = next-turn .there;
-          room = omega (arith, next-place, g .room, q .same);
-          apart = ⊎-elim (λ x. inl (omega (arith, next-place, q .row .begun))) (λ x. inr (omega (arith, next-place, q .row .begun))) (g .apart);
-          small = omega (arith, g .small, child-low t j next-one, binds-few (rootKind t) j, q .row .begun);
-          deep = omega (arith, g .deep, binds-few (rootKind t) j, q .row .begun);
-        }
+      next-raising : RaisingAt rs at to n (d + bindersOver (rootKind t) j) (child t j)
+      next-raising =
+          let q = r .all t g in
+          let v = next-turn .next .from in
+          record {
+            there = next-turn .there;
+            room = omega (arith, next-place, g .room, q .same);
+            apart = ⊎-elim (λ x. inl (omega (arith, next-place, q .row .begun))) (λ x. inr (omega (arith, next-place, q .row .begun))) (g .apart);
+            small = omega (arith, g .small, child-low t j next-one, binds-few (rootKind t) j, q .row .begun);
+            deep = omega (arith, g .deep, binds-few (rootKind t) j, q .row .begun);
+          }
 
-  pub turn-tree : HasTree rs at
-  turn-tree = record { tree = child (r .tree) j; there = next-turn (r .tree) (r .kids) .there }
+    pub turn-tree : HasTree rs at
+    turn-tree = record { tree = child (r .tree) j; there = next-turn (r .tree) (r .kids) .there }
+
+    pub turn-count : Fits w16 (j + 1)
+    turn-count = omega (arith, r .count, few-children (kindOf k))
 
   module _ (m : ℕ) (o : m ≡ bindersOver (kindOf k) j) where
     over : (t : Term) → KidsAt rs₁ src dst n d k t → m ≡ bindersOver (rootKind t) j
     over t g = o ∙ ap (λ x. bindersOver x j) (g .kind)
 
-    pub turn-deep : Fits w16 (d + m)
-    turn-deep = omega (arith, r .kids .deep, o, binds-few (kindOf k) j, size-some (r .tree))
+    pub turn-deep : (e : ℕ) → e ≡ d + m → Fits w16 e
+    turn-deep e q = omega (arith, r .kids .deep, o, binds-few (kindOf k) j, size-some (r .tree))
 
-    pub turn-raises : CanRaise rs at to n (d + m)
-    turn-raises = record { tree = child (r .tree) j; raises = rw (over (r .tree) (r .kids)) (next-raising (r .tree) (r .kids)) }
+    pub turn-raises : j < c → (e n′ : ℕ) → e ≡ d + m → n′ ≡ n → CanRaise rs at to n′ e
+    turn-raises l e n′ p q = rw (p, q) (record { tree = child (r .tree) j; raises = rw (over (r .tree) (r .kids)) (next-raising l (r .tree) (r .kids)) })
 
-    module _ (end : ℕ) (sk : Skips rs at end) where
-      pub turn-down : at ≤ end
-      turn-down = omega (arith, sk .is (child (r .tree) j) (next-turn (r .tree) (r .kids) .there))
+  module _ (end : ℕ) (sk : Skips rs at end) (l : j < c) where
+    pub turn-down : at ≤ end
+    turn-down = omega (arith, sk .is (child (r .tree) j) (next-turn l (r .tree) (r .kids) .there))
 
-      pub turn-next : (rs′ : List Record) → Raises rs rs′ at to n (d + m) → Raising rs₁ src dst n d k rs′ end (to + (end - at)) (j + 1)
-      unfolding changedChildren preorders
-      turn-next rs′ w = record { all = next; tree = r .tree; kids = r .kids }
-        where
-          next : (t : Term) → KidsAt rs₁ src dst n d k t → LeftOf rs₁ src dst n d rs′ end (to + (end - at)) (j + 1) t
-          next t g =
-              let q = r .all t g in
-              let f = next-turn t g .next in
-              let u = child t j in
-              let v = changed (raising n) (d + bindersOver (rootKind t) j) u in
-              let xs = preorder v in
-              let i : rs′ ≡ puts rs to xs = rw (over t g) at (w .does u (rw (over t g) (next-raising t g))) in
-              let z : length xs ≡ size u = length-preorder v ∙ size-raised n (d + bindersOver (rootKind t) j) u in
-              let y = sk .is u (next-turn t g .there) in
-              let x : to + (end - at) ≡ to + length xs = omega arith in
-              let rest = changedChildren (raising n) d (rootKind t) (j + 1) (after t (j + 1)) in
-              let old : puts rs to (xs ++ preorders rest) ≡ puts rs₁ (dst + 1) (preorders (changedChildren (raising n) d (rootKind t) 0 (kids t))) =
-              rw (add-one j) (rw (child-split t j (next-one t g), add-one j) at (q .written)) in
-              record {
-                row = record {
-                  there = rw (i, y) (there-stays rs to xs (at + size u) (preorders (after t (j + 1)))
-                      (⊎-elim (λ a. inl (omega (arith, f .from, next-place t g, q .row .begun, length-preorders (after t (j + 1))))) (λ a. inr (omega (arith, next-place t g, q .row .begun))) (g .apart)) (f .there));
-                  from = omega (arith, f .from);
-                  begun = omega (arith, q .row .begun);
-                };
-                place = omega (arith, next-place t g);
-                same = ap length i ∙ length-puts rs to xs ∙ q .same;
-                written = ap (λ s. puts s (to + (end - at)) (preorders rest)) i ∙ ap (λ s. puts (puts rs to xs) s (preorders rest)) x ∙ sym (puts-append rs to xs (preorders rest)) ∙ old;
-              }
+    pub turn-to-fits : Fits w64 (to + (end - at))
+    turn-to-fits =
+        let q = next-raising l (r .tree) (r .kids) in
+        omega (arith, sk .is (child (r .tree) j) (q .there), q .room, r .all (r .tree) (r .kids) .same, r .short)
 
-  pub turn-count : Fits w16 (j + 1)
-  turn-count = omega (arith, few-children (kindOf k))
+    pub turn-next : (rs′ : List Record) (m : ℕ) → Raises rs rs′ at to n (d + m) → m ≡ bindersOver (kindOf k) j → (to′ : ℕ) → to′ ≡ to + (end - at) → Raising rs₁ src dst n d k c rs′ end to′ (j + 1)
+    unfolding changedChildren preorders
+    turn-next rs′ m w o to′ p = record { count = r .count; short = r .short; all = next; tree = r .tree; kids = r .kids }
+      where
+        next : (t : Term) → KidsAt rs₁ src dst n d k t → LeftOf rs₁ src dst n d rs′ end to′ (j + 1) t
+        next t g =
+            let q = r .all t g in
+            let f = next-turn l t g .next in
+            let u = child t j in
+            let v = changed (raising n) (d + bindersOver (rootKind t) j) u in
+            let xs = preorder v in
+            let i : rs′ ≡ puts rs to xs = rw (over m o t g) at (w .does u (rw (over m o t g) (next-raising l t g))) in
+            let z : length xs ≡ size u = length-preorder v ∙ size-raised n (d + bindersOver (rootKind t) j) u in
+            let y = sk .is u (next-turn l t g .there) in
+            let x : to′ ≡ to + length xs = omega arith in
+            let rest = changedChildren (raising n) d (rootKind t) (j + 1) (after t (j + 1)) in
+            let old : puts rs to (xs ++ preorders rest) ≡ puts rs₁ (dst + 1) (preorders (changedChildren (raising n) d (rootKind t) 0 (kids t))) =
+            rw (add-one j) (rw (child-split t j (next-one l t g), add-one j) at (q .written)) in
+            record {
+              row = record {
+                there = rw (i, y) (there-stays rs to xs (at + size u) (preorders (after t (j + 1)))
+                    (⊎-elim (λ a. inl (omega (arith, f .from, next-place l t g, q .row .begun, length-preorders (after t (j + 1))))) (λ a. inr (omega (arith, next-place l t g, q .row .begun))) (g .apart)) (f .there));
+                from = omega (arith, f .from);
+                begun = omega (arith, q .row .begun);
+              };
+              place = omega (arith, next-place l t g);
+              same = ap length i ∙ length-puts rs to xs ∙ q .same;
+              written = ap (λ s. puts s to′ (preorders rest)) i ∙ ap (λ s. puts (puts rs to xs) s (preorders rest)) x ∙ sym (puts-append rs to xs (preorders rest)) ∙ old;
+            }
 
 -- Places and lengths.
 pub raise-from-fits : (s : List ℕ) (src dst n d : ℕ) → CanRaise (recordsIn s) src dst n d → length s < 2 ^ 64 → Fits w64 (src + 1)
@@ -202,23 +214,15 @@ raise-from-fits s src dst n d h b = omega (arith, raise-in (recordsIn s) src dst
 pub raise-to-fits : (s : List ℕ) (src dst n d : ℕ) → CanRaise (recordsIn s) src dst n d → length s < 2 ^ 64 → Fits w64 (dst + 1)
 raise-to-fits s src dst n d h b = omega (arith, h .raises .room, size-some (h .tree), records-length s)
 
-module _ (s₁ : List ℕ) (src dst n d k : ℕ) (s : List ℕ) (at to j c : ℕ) (r : Raising (recordsIn s₁) src dst n d k (recordsIn s) at to j) (e : c ≡ childCount (kindOf k)) (l : j < c) (s₀ : List ℕ) (o : length s₁ ≡ length s₀) where
-  pub turn-to-fits : (end : ℕ) → Skips (recordsIn s) at end → length s₀ < 2 ^ 64 → Fits w64 (to + (end - at))
-  turn-to-fits end sk b =
-      let q = next-raising (recordsIn s₁) src dst n d k (recordsIn s) at to j c r e l (r .tree) (r .kids) in
-      omega (arith, sk .is (child (r .tree) j) (q .there), q .room, r .all (r .tree) (r .kids) .same, records-length s₁)
+pub records-short : (s : List ℕ) → length s < 2 ^ 64 → length (recordsIn s) < 2 ^ 60
+records-short s b = omega (arith, records-length s)
 
-  pub turn-falls : (m : ℕ) → length (recordsIn s₀) - src ≡ m → length (recordsIn s) - at < m
-  turn-falls m g =
-      let q = r .all (r .tree) (r .kids) in
-      omega (
-        arith,
-        q .row .begun,
-        q .same,
-        records-length s₁,
-        records-length s₀,
-        at-first (recordsIn s) at _ (turn-tree (recordsIn s₁) src dst n d k (recordsIn s) at to j c r e l .there),
-      )
+-- What falls: the records from the tree on.
+pub turn-falls : (s₀ : List ℕ) (src q : ℕ) → length (recordsIn s₀) - src ≡ q → (s₁ : List ℕ) (dst n d k c : ℕ) (s : List ℕ) (at to j : ℕ) → Raising (recordsIn s₁) src dst n d k c (recordsIn s) at to j
+    → j < c → length s₁ ≡ length s₀ → length (recordsIn s) - at < q
+turn-falls s₀ src q g s₁ dst n d k c s at to j r l e =
+    let h = r .all (r .tree) (r .kids) in
+    omega (arith, h .row .begun, h .same, records-length s₁, records-length s₀, at-first (recordsIn s) at _ (turn-tree (recordsIn s₁) src dst n d k c (recordsIn s) at to j r l .there))
 
 pub ruleset copying-raised =
-    (raise-tree, raise-in, flat-down, flat-can, flat-does, raise-root, raise-starts, raise-ends, turn-tree, turn-deep, turn-raises, turn-down, turn-next, turn-count, raise-from-fits, raise-to-fits, turn-to-fits, turn-falls)
+    (raise-tree, raise-in, flat-down, flat-can, flat-does, raise-root, raise-starts, raise-ends, turn-tree, turn-deep, turn-raises, turn-down, turn-next, turn-count, raise-from-fits, raise-to-fits, turn-to-fits, records-short)

@@ -2,12 +2,11 @@
 use Prim.Native.Nat.{ℕ, _-_, _<_}
 use mathlib.Core.Path.{_≡_}
 use lib.ListN.{length}
-use native.Mathlib.Omega.{arith}
 use borrow.Author.Needs.{needs}
 use borrow.Fn.Kinds.{In}
 use borrow.Fn.PlainCycle.{Measures, is, falls, and}
 use Rattle.records.specs.View.{recordsIn}
-use Rattle.copies.proofs.RaisedCopies.{Raising, copying-raised, turn-deep, turn-raises, turn-down, turn-next, turn-count, turn-to-fits, turn-falls, raise-ends}
+use Rattle.copies.proofs.RaisedCopies.{Raising, turn-falls, copying-raised}
 use Rattle.copies.proofs.raising.copy_raised.Reads as copy-raised
 use Rattle.copies.proofs.raising.copy_raised.Kinds as copy-raised-kinds
 use Rattle.copies.proofs.raising.+copy_raised.Lts-copy_raised as copy-raised-lts
@@ -51,7 +50,7 @@ copy-raised-claims t = (
 )
 
 abbrev copy-raised-Inv-loop : copy-raised-lts.InvT-loop
-copy-raised-Inv-loop w₀ src dst n d bound kind children at₀ to₀ j₀ w at to j = (length w ≡ length w₀) × Raising (recordsIn w₀) src dst n d kind (recordsIn w) at to j
+copy-raised-Inv-loop w₀ src dst n d bound kind children at₀ to₀ j₀ w at to j = (length w ≡ length w₀) × Raising (recordsIn w₀) src dst n d kind children (recordsIn w) at to j
 
 abbrev copy-raised-μ-loop : copy-raised-lts.MeasureT-loop
 copy-raised-μ-loop w₀ src dst n d bound kind children at₀ to₀ j₀ w at to j = children - j
@@ -73,19 +72,13 @@ pub +copy-raised-spec : {M : Type 1} → statement M
     (λ c. search (copying-raised, needs))  -- loop-holds
     (λ c κs. search (copying-raised, needs))  -- skip-requires-2
     (λ c κs. search (copying-raised, needs))  -- binders-over-requires
-    (λ c. turn-deep _ _ _ _ _ _ _ _ _ _ _ (c .before .before .before .before .before .loop .inv .1) (c .before .before .before .before .before .before .children .ensures) (c .before .before .before .before .loop-test .taken) _ (c .binders-over .ensures))  -- add-copy-raised
-    (λ c κs. (
-      turn-falls _ _ _ _ _ _ _ _ _ _ _ (c .before .before .before .before .before .loop .inv .1) (c .before .before .before .before .before .before .children .ensures) (c .before .before .before .before .loop-test .taken) (c .before .before .before .before .before .before .before .before .before .before .before .before .before .before .before .before .before .args .w .now) (omega (arith, c .before .before .before .before .before .before .before .before .before .raise-root)) _ (c .before .before .before .before .before .before .before .before .before .before .before .before .before .before .before .before .before .pre .0),
-      turn-raises _ _ _ _ _ _ _ _ _ _ _ (c .before .before .before .before .before .loop .inv .1) (c .before .before .before .before .before .before .children .ensures) (c .before .before .before .before .loop-test .taken) _ (c .binders-over .ensures),
-    ))  -- copy-raised-requires
-    (λ c. turn-down _ _ _ _ _ _ _ _ _ _ _ (c .before .before .before .before .before .before .before .before .loop .inv .1) (c .before .before .before .before .before .before .before .before .before .children .ensures) (c .before .before .before .before .before .before .before .loop-test .taken) _ (c .before .before .before .binders-over .ensures) _ (c .before .before .before .before .before .skip2 .ensures))  -- sub-to
-    (λ c. turn-to-fits _ _ _ _ _ _ _ _ _ _ _ (c .before .before .before .before .before .before .before .before .loop .inv .1) (c .before .before .before .before .before .before .before .before .before .children .ensures) (c .before .before .before .before .before .before .before .loop-test .taken) (c .before .before .before .before .before .before .before .before .before .before .before .before .before .before .before .before .before .before .before .before .args .w .now) (omega (arith, c .before .before .before .before .before .before .before .before .before .before .before .before .raise-root)) _ (c .before .before .before .before .before .skip2 .ensures) (omega (arith, c .before .before .before .before .before .before .before .before .before .before .before .before .before .before .before .before .before .before .before .before)))  -- add-to-2
-    (λ c. turn-count _ _ _ _ _ _ _ _ _ _ _ (c .before .before .before .before .before .before .before .before .loop .inv .1) (c .before .before .before .before .before .before .before .before .before .children .ensures) (c .before .before .before .before .before .before .before .loop-test .taken))  -- add-j
+    (λ c. search (copying-raised, needs))  -- add-copy-raised
+    (λ c κs. (search turn-falls, search (copying-raised, needs)))  -- copy-raised-requires
+    (λ c. search (copying-raised, needs))  -- sub-to
+    (λ c. search (copying-raised, needs))  -- add-to-2
+    (λ c. search (copying-raised, needs))  -- add-j
     (λ c. search (copying-raised, needs))  -- loop-less
-    (λ c. (
-      omega (arith, c .before .before .copy-raised, c .before .before .before .before .before .before .before .before .loop),
-      turn-next _ _ _ _ _ _ _ _ _ _ _ (c .before .before .before .before .before .before .before .before .loop .inv .1) (c .before .before .before .before .before .before .before .before .before .children .ensures) (c .before .before .before .before .before .before .before .loop-test .taken) _ (c .before .before .before .binders-over .ensures) _ (c .before .before .before .before .before .skip2 .ensures) _ (c .before .before .copy-raised .ensures),
-    ))  -- loop-again
+    (λ c. search (copying-raised, needs))  -- loop-again
     (λ c. search (copying-raised, needs))  -- same-length-2
-    (λ c. raise-ends _ _ _ _ _ _ _ _ (c .before .before .before .before .before .before .before .before .before .before .bound-at .ensures) (c .before .before .before .before .before .before .before .before .before .if1 .left) (c .before .before .before .before .before .before .before .kind-at .ensures) (c .before .before .before .before .before .raise-root .ensures) _ _ _ _ _ (c .before .loop .inv .1) (c .before .before .children .ensures) (c .loop-test .left))  -- returns-2
+    (λ c. search (copying-raised, needs))  -- returns-2
     )
