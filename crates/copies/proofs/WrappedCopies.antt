@@ -1,5 +1,5 @@
 -- `copy_wrapped`: raising after wrapping is one walk, and a sound way to copy. `wrapping-laws` for search.
-use Prim.Native.Nat.{ℕ, _+_, _-_, _*_, _/_, _^_, _<_, max}
+use Prim.Native.Nat.{ℕ, _+_, _-_, _*_, _/_, _^_, _≤_, _<_, max}
 use native.Mathlib.Omega.{arith}
 use native.Mathlib.Decide.{decLt, ℕ-discrete}
 use mathlib.Core.List.{List, [], _∷_}
@@ -8,7 +8,7 @@ use mathlib.Core.Path.{_≡_, refl, sym, ap, ap₂, _∙_}
 use lib.Dec.{eqb}
 use lib.ListN.{length, getD, set, length-set}
 use borrow.Author.Tests.{lt-ltb, le-ltb, eq-eqb, ne-eqb, eqb-true}
-use mir.Syntax.{w64}
+use mir.Syntax.{w16, w64}
 use mir.Val.{Fits}
 use Rattle.rules.specs.Kinds.{number, variable, matchVariable, matchShape, match, childCount, kindOf}
 use Rattle.rules.specs.Terms.{Fields, Term, leaf, unary, binary, ternary, size, onlyType}
@@ -21,12 +21,14 @@ use Rattle.rules.proofs.FreeBounds.{KeepsLow}
 use Rattle.rules.proofs.ChangedBounds.{raised-most, bound-wrapped}
 use Rattle.records.specs.View.{recordsIn, RecordPut}
 use Rattle.records.proofs.Records.{records-length}
-use Rattle.terms.specs.Preorder.{puts, head, preorder, At}
-use Rattle.copies.specs.Copying.{CanCopy, Copies, isNamed}
+use Rattle.terms.specs.Preorder.{puts, head, preorder, At, HasTree, Skips}
+use Rattle.terms.specs.Moves.{CanMove}
+use Rattle.terms.specs.Measuring.{bindersOver, HasRooted, MarksRoot}
+use Rattle.copies.specs.Copying.{CanCopy, Copies, BlockMoved, isNamed, MovesRoot}
 use Rattle.copies.specs.Wrapping.{splicedUse, wrappingUnder, Wrapping, PutsUse, RoomForUse, CanWrapRoot}
 use Rattle.copies.proofs.RaisedRoots.{index-fits}
 use Rattle.terms.proofs.Puts.{put-before}
-use Rattle.copies.proofs.Copies.{Sound, Spot, named, read-root, read-spot, copy-to, copying}
+use Rattle.copies.proofs.Copies.{Sound, Spot, named, read-root, read-spot, copy-in, copy-to, block-can, block-does, Copying, copy-starts, turn-tree, turn-deep, turn-can, turn-next, copy-rooted, copy-ends, copy-from-fits, copy-to-fits, copy-falls}
 
 -- Raising after wrapping is one walk.
 module _ (n code : ℕ) where
@@ -153,4 +155,59 @@ wrap-root-can rs src dst n d code r e h =
       field = index-fits rs src r e t (h .copy .there) n (d + 1) (omega (arith, f .low, h .meant .reach));
     }
 
-pub ruleset wrapping-laws = (copying, wrapping-sound, use-fits, use-end-fits, use-in, use-room, use-does, wrap-root-can)
+-- The laws of copies, of this way: search knows it by its name.
+module _ (rs : List Record) (src dst n d code : ℕ) (r : Record) (e : r ≡ getD rs src noRecord) (l : r .next / 2 ≤ d) where
+  pub wrap-block-can : CanCopy (Wrapping n code) rs src dst d → (z : ℕ) → z ≡ r .first → CanMove rs src dst z
+  wrap-block-can h z q = rw q (block-can (Wrapping n code) 1 _ (wrapping-sound n code) rs src dst d r e l h)
+
+  pub wrap-block-does : (rs′ : List Record) (o : ℕ) → BlockMoved rs rs′ src dst (r .first) o → Copies (Wrapping n code) rs rs′ src dst d o
+  wrap-block-does = block-does (Wrapping n code) 1 _ (wrapping-sound n code) rs src dst d r e l
+
+-- The loop over the c children.
+pub record Wraps (rs₁ : List Record) (src dst n code d k c : ℕ) (rs : List Record) (at to j : ℕ) : Type 0 where
+  count : c ≡ childCount (kindOf k)
+  copying : Copying (Wrapping n code) 1 rs₁ src dst d k rs at to j
+
+pub wrap-starts : (rs rs₁ : List Record) (src dst n d code : ℕ) (r : Record) → MovesRoot (raisedIndex n (d + 1)) rs rs₁ dst r → r ≡ getD rs src noRecord → d < r .next / 2 → (k : ℕ) → k ≡ r .kind
+    → (c : ℕ) → c ≡ childCount (kindOf k) → (x : Bool) → x ≡ isNamed c 1 d (r .fields .a) → x ≡ false → CanCopy (Wrapping n code) rs src dst d → Wraps rs₁ src dst n code d k c rs₁ (src + 1) (dst + 1) 0
+wrap-starts rs rs₁ src dst n d code r w e l k q c o x i y h =
+    let a : c ≡ childCount (kindOf (r .kind)) = rw q at o in
+    record { count = o; copying = rw q (copy-starts (Wrapping n code) 1 _ (wrapping-sound n code) rs src dst d r e l c a x i y rs₁ w h) }
+
+pub wrap-ends : (rs rs₁ rs₂ rs₃ : List Record) (src dst n d code end : ℕ) → MarksRoot rs₂ rs₃ dst end → (k c at to j : ℕ) → Wraps rs₁ src dst n code d k c rs₂ at to j → c ≤ j
+    → (r : Record) → MovesRoot (raisedIndex n (d + 1)) rs rs₁ dst r → r ≡ getD rs src noRecord → k ≡ r .kind → d < r .next / 2 → (x : Bool) → x ≡ isNamed c 1 d (r .fields .a) → x ≡ false
+    → Copies (Wrapping n code) rs rs₃ src dst d end
+wrap-ends rs rs₁ rs₂ rs₃ src dst n d code end z k c at to j p m r w e q l x i y =
+    copy-ends (Wrapping n code) 1 _ (wrapping-sound n code) rs src dst d r e l c (rw q at (p .count)) x i y rs₁ w rs₂ at to j (rw q at (p .copying)) m rs₃ end z
+
+-- A turn of the loop. What the code computes for the child is a premise of its own.
+module _ (rs₁ : List Record) (src dst n code d k c : ℕ) (rs : List Record) (at to j : ℕ) (p : Wraps rs₁ src dst n code d k c rs at to j) where
+  module _ (l : j < c) where
+    pub wrap-tree : HasTree rs at
+    wrap-tree = turn-tree (Wrapping n code) 1 _ (wrapping-sound n code) rs₁ src dst d k rs at to j c (p .copying) (p .count) l
+
+    module _ (m : ℕ) (o : m ≡ bindersOver (kindOf k) j) where
+      pub wrap-deep : (e : ℕ) → e ≡ d + m → Fits w16 e
+      wrap-deep e q = rw q (turn-deep (Wrapping n code) 1 _ (wrapping-sound n code) rs₁ src dst d k rs at to j c (p .copying) (p .count) l m o)
+
+      pub wrap-can : (e n′ code′ : ℕ) → e ≡ d + m → n′ ≡ n → code′ ≡ code → CanCopy (Wrapping n′ code′) rs at to e
+      wrap-can e n′ code′ q u v = rw (q, u, v) (turn-can (Wrapping n code) 1 _ (wrapping-sound n code) rs₁ src dst d k rs at to j c (p .copying) (p .count) l m o)
+
+    pub wrap-next : (end : ℕ) → Skips rs at end → (rs′ : List Record) (to′ m : ℕ) → Copies (Wrapping n code) rs rs′ at to (d + m) to′ → m ≡ bindersOver (kindOf k) j
+        → Wraps rs₁ src dst n code d k c rs′ end to′ (j + 1)
+    wrap-next end sk rs′ to′ m w o = record {
+      count = p .count;
+      copying = turn-next (Wrapping n code) 1 _ (wrapping-sound n code) rs₁ src dst d k rs at to j c (p .copying) (p .count) l m o end sk rs′ to′ w;
+    }
+
+  pub wrap-rooted : c ≤ j → HasRooted rs dst
+  wrap-rooted l = copy-rooted (Wrapping n code) 1 _ (wrapping-sound n code) rs₁ src dst d k rs at to j c (p .copying) (p .count) l
+
+-- What falls: the records from the tree on.
+pub wrap-falls : (s₀ : List ℕ) (src q : ℕ) → length (recordsIn s₀) - src ≡ q → (s₁ : List ℕ) (dst n code d k c : ℕ) (s : List ℕ) (at to j : ℕ)
+    → Wraps (recordsIn s₁) src dst n code d k c (recordsIn s) at to j → j < c → length s₁ ≡ length s₀ → length (recordsIn s) - at < q
+wrap-falls s₀ src q g s₁ dst n code d k c s at to j p l y =
+    copy-falls (Wrapping n code) 1 _ (wrapping-sound n code) s₁ src dst d k s at to j c (p .copying) (p .count) l s₀ y q g
+
+pub ruleset wrapping-laws =
+    (copy-in, copy-from-fits, copy-to-fits, use-fits, use-end-fits, use-in, use-room, use-does, wrap-root-can, wrap-block-can, wrap-block-does, wrap-starts, wrap-ends, wrap-tree, wrap-deep, wrap-can, wrap-next, wrap-rooted)

@@ -1,13 +1,10 @@
--- `copy_wrapped` meets its contract. Assumes nothing.
-use Rattle.copies.proofs.Copies.{block-can, block-does, copy-starts, turn-tree, turn-deep, turn-can, turn-next, copy-rooted, copy-ends, copy-falls, Copying}
-use Rattle.copies.proofs.WrappedCopies.{wrapping-sound, wrapping-laws}
+-- `copy_wrapped` meets its contract: one law of WrappedCopies for each need. What falls is the number of records from src on. Assumes nothing.
+use Rattle.copies.proofs.WrappedCopies.{Wraps, wrap-falls, wrapping-laws}
 use borrow.Author.Needs.{needs}
 use Prim.Native.Nat.{ℕ, _-_, _<_}
-use native.Mathlib.Omega.{arith}
-use mathlib.Core.Path.{_≡_, refl}
+use mathlib.Core.Path.{_≡_}
 use lib.ListN.{length}
 use Rattle.records.specs.View.{recordsIn}
-use Rattle.copies.specs.Wrapping.{Wrapping}
 use borrow.Fn.Kinds.{In}
 use borrow.Fn.PlainCycle.{Measures, is, falls, and}
 use Rattle.copies.proofs.wrapping.copy_wrapped.Reads as copy-wrapped
@@ -59,7 +56,7 @@ copy-wrapped-claims t = (
 )
 
 abbrev copy-wrapped-Inv-loop : copy-wrapped-lts.InvT-loop
-copy-wrapped-Inv-loop w₀ src dst n d code kind children at₀ to₀ j₀ w at to j = (length w ≡ length w₀) × Copying (Wrapping n code) 1 (recordsIn w₀) src dst d kind (recordsIn w) at to j
+copy-wrapped-Inv-loop w₀ src dst n d code kind children at₀ to₀ j₀ w at to j = (length w ≡ length w₀) × Wraps (recordsIn w₀) src dst n code d kind children (recordsIn w) at to j
 
 abbrev copy-wrapped-μ-loop : copy-wrapped-lts.MeasureT-loop
 copy-wrapped-μ-loop w₀ src dst n d code kind children at₀ to₀ j₀ w at to j = children - j
@@ -69,9 +66,9 @@ pub +copy-wrapped-spec : {M : Type 1} → statement M
     (λ t. copy-wrapped-lts.spec (copy-wrapped-claims t) (copy-wrapped-at t) copy-wrapped.Post copy-wrapped-Inv-loop copy-wrapped-μ-loop
     (λ c κs. search (wrapping-laws, needs))  -- get-requires
     (λ c. search (wrapping-laws, needs))  -- cast-copy-block
-    (λ c κs. block-can _ _ _ (wrapping-sound _ _) _ _ _ _ _ (c .before .before .before .before .get .ensures) (c .before .before .if1 .taken) (c .before .before .before .before .before .before .before .pre .1))  -- copy-block-requires
+    (λ c κs. search (wrapping-laws, needs))  -- copy-block-requires
     (λ c. search (wrapping-laws, needs))  -- same-length
-    (λ c. block-does _ _ _ (wrapping-sound _ _) _ _ _ _ _ (c .before .before .before .before .before .before .before .get .ensures) (c .before .before .before .before .before .if1 .taken) _ _ (c .before .before .copy-block .ensures))  -- returns
+    (λ c. search (wrapping-laws, needs))  -- returns
     (λ c κs. search (wrapping-laws, needs))  -- children-requires
     (λ c κs. search (wrapping-laws, needs))  -- gives-way-requires
     (λ c κs. search (wrapping-laws, needs))  -- put-use-requires
@@ -80,15 +77,15 @@ pub +copy-wrapped-spec : {M : Type 1} → statement M
     (λ c κs. search (wrapping-laws, needs))  -- wrap-root-requires
     (λ c. search (wrapping-laws, needs))  -- add-at
     (λ c. search (wrapping-laws, needs))  -- add-to
-    (λ c. (refl, copy-starts _ _ _ (wrapping-sound _ _) _ _ _ _ _ (c .before .before .before .before .before .before .before .before .before .get .ensures) (c .before .before .before .before .before .before .before .if1 .left) _ (c .before .before .before .before .before .before .children .ensures) _ (c .before .before .before .before .before .gives-way .ensures) (c .before .before .before .before .if2 .left) _ (c .before .before .wrap-root .ensures) (c .before .before .before .before .before .before .before .before .before .before .before .before .pre .1)))  -- loop-holds
-    (λ c κs. turn-tree _ _ _ (wrapping-sound _ _) _ _ _ _ _ _ _ _ _ _ (c .before .before .loop .inv .1) (c .before .before .before .before .before .before .before .before .before .children .ensures) (c .before .loop-test .taken))  -- skip-requires
+    (λ c. (search needs, search (wrapping-laws, needs)))  -- loop-holds
+    (λ c κs. search (wrapping-laws, needs))  -- skip-requires
     (λ c κs. search (wrapping-laws, needs))  -- binders-over-requires
-    (λ c. turn-deep _ _ _ (wrapping-sound _ _) _ _ _ _ _ _ _ _ _ _ (c .before .before .before .before .before .loop .inv .1) (c .before .before .before .before .before .before .before .before .before .before .before .before .children .ensures) (c .before .before .before .before .loop-test .taken) _ (c .binders-over .ensures))  -- add-copy-wrapped
-    (λ c κs. (copy-falls _ _ _ (wrapping-sound _ _) _ _ _ _ _ _ _ _ _ _ (c .before .before .before .before .before .loop .inv .1) (c .before .before .before .before .before .before .before .before .before .before .before .before .children .ensures) (c .before .before .before .before .loop-test .taken) (c .before .before .before .before .before .before .before .before .before .before .before .before .before .before .before .before .before .before .args .w .now) (omega (arith, c .before .before .before .before .before .before .before .before .wrap-root)) _ (c .before .before .before .before .before .before .before .before .before .before .before .before .before .before .before .before .before .before .pre .0), turn-can _ _ _ (wrapping-sound _ _) _ _ _ _ _ _ _ _ _ _ (c .before .before .before .before .before .loop .inv .1) (c .before .before .before .before .before .before .before .before .before .before .before .before .children .ensures) (c .before .before .before .before .loop-test .taken) _ (c .binders-over .ensures)))  -- copy-wrapped-requires
+    (λ c. search (wrapping-laws, needs))  -- add-copy-wrapped
+    (λ c κs. (search wrap-falls, search (wrapping-laws, needs)))  -- copy-wrapped-requires
     (λ c. search (wrapping-laws, needs))  -- add-j
     (λ c. search (wrapping-laws, needs))  -- loop-less
-    (λ c. (omega (arith, c .before .before .copy-wrapped, c .before .before .before .before .before .before .before .before .loop), turn-next _ _ _ (wrapping-sound _ _) _ _ _ _ _ _ _ _ _ _ (c .before .before .before .before .before .before .before .before .loop .inv .1) (c .before .before .before .before .before .before .before .before .before .before .before .before .before .before .before .children .ensures) (c .before .before .before .before .before .before .before .loop-test .taken) _ (c .before .before .before .binders-over .ensures) _ (c .before .before .before .before .before .skip .ensures) _ _ (c .before .before .copy-wrapped .ensures)))  -- loop-again
-    (λ c κs. copy-rooted _ _ _ (wrapping-sound _ _) _ _ _ _ _ _ _ _ _ _ (c .before .before .loop .inv .1) (c .before .before .before .before .before .before .before .before .before .children .ensures) (c .before .loop-test .left))  -- mark-root-requires
+    (λ c. search (wrapping-laws, needs))  -- loop-again
+    (λ c κs. search (wrapping-laws, needs))  -- mark-root-requires
     (λ c. search (wrapping-laws, needs))  -- same-length-3
-    (λ c. copy-ends _ _ _ (wrapping-sound _ _) _ _ _ _ _ (c .before .before .before .before .before .before .before .before .before .before .before .before .before .before .before .get .ensures) (c .before .before .before .before .before .before .before .before .before .before .before .before .before .if1 .left) _ (c .before .before .before .before .before .before .before .before .before .before .before .before .children .ensures) _ (c .before .before .before .before .before .before .before .before .before .before .before .gives-way .ensures) (c .before .before .before .before .before .before .before .before .before .before .if2 .left) _ (c .before .before .before .before .before .before .before .before .wrap-root .ensures) _ _ _ _ (c .before .before .before .before .before .loop .inv .1) (c .before .before .before .before .loop-test .left) _ _ (c .before .before .mark-root .ensures))  -- returns-3
+    (λ c. search (wrapping-laws, needs))  -- returns-3
     )
