@@ -13,7 +13,7 @@ use Rattle.rules.specs.Terms.{Term, rootKind, size}
 use Rattle.rules.specs.FreeBounds.{freeBound}
 use Rattle.rules.specs.Indices.{changed, raising}
 use Rattle.rules.specs.Format.{Record}
-use Rattle.rules.proofs.KindTable.{kind-back, few-children}
+use Rattle.rules.proofs.KindTable.{kind-back}
 use Rattle.rules.proofs.Laid.{size-some}
 use Rattle.rules.proofs.FreeBounds.{changed-low, raising-low}
 use Rattle.records.specs.View.{recordsIn}
@@ -35,9 +35,6 @@ use Rattle.terms.proofs.Moving.{apart-moves}
 
 -- A tree without such an index, as a block.
 module _ (rs : List Record) (src dst n d : ℕ) where
-  pub raise-tree : CanRaise rs src dst n d → HasTree rs src
-  raise-tree h = record { tree = h .tree; there = h .raises .there }
-
   pub raise-in : CanRaise rs src dst n d → src < length rs
   raise-in h = at-first rs src (h .tree) (h .raises .there)
 
@@ -155,9 +152,6 @@ module _ (rs₁ : List Record) (src dst n d k c : ℕ) (rs : List Record) (at to
     pub turn-tree : HasTree rs at
     turn-tree = record { tree = child (r .tree) j; there = next-turn (r .tree) (r .kids) .there }
 
-    pub turn-count : Fits w16 (j + 1)
-    turn-count = omega (arith, r .count, few-children (kindOf k))
-
   module _ (m : ℕ) (o : m ≡ bindersOver (kindOf k) j) where
     over : (t : Term) → KidsAt rs₁ src dst n d k t → m ≡ bindersOver (rootKind t) j
     over t g = o ∙ ap (λ x. bindersOver x j) (g .kind)
@@ -225,4 +219,4 @@ turn-falls s₀ src q g s₁ dst n d k c s at to j r l e =
     omega (arith, h .row .begun, h .same, records-length s₁, records-length s₀, at-first (recordsIn s) at _ (turn-tree (recordsIn s₁) src dst n d k c (recordsIn s) at to j r l .there))
 
 pub ruleset copying-raised =
-    (raise-tree, raise-in, flat-down, flat-can, flat-does, raise-root, raise-starts, raise-ends, turn-tree, turn-deep, turn-raises, turn-down, turn-next, turn-count, raise-from-fits, raise-to-fits, turn-to-fits, records-short)
+    (raise-in, flat-down, flat-can, flat-does, raise-root, raise-starts, raise-ends, turn-tree, turn-deep, turn-raises, turn-down, turn-next, raise-from-fits, raise-to-fits, turn-to-fits, records-short)

@@ -28,7 +28,7 @@ use Rattle.copies.specs.Copying.{CanCopy, Copies, BlockMoved, isNamed, M
 use Rattle.copies.specs.Wrapping.{splicedUse, wrappingUnder, Wrapping, PutsUse, RoomForUse, CanWrapRoot}
 use Rattle.copies.proofs.RaisedRoots.{index-fits}
 use Rattle.terms.proofs.Puts.{put-before}
-use Rattle.copies.proofs.Copies.{Sound, Spot, named, read-root, read-spot, copy-in, copy-to, block-can, block-does, Copying, copy-starts, turn-tree, turn-deep, turn-can, turn-next, copy-rooted, copy-ends, copy-from-fits, copy-to-fits, copy-falls}
+use Rattle.copies.proofs.Copies.{Sound, Spot, named, read-root, read-spot, copy-in, copy-to, block-can, block-does, Copying, copy-starts, turn-tree, turn-deep, turn-can, turn-next, copy-rooted, copy-ends, copy-from-fits, copy-falls}
 
 -- Raising after wrapping is one walk.
 module _ (n code : ℕ) where
@@ -210,4 +210,4 @@ wrap-falls s₀ src q g s₁ dst n code d k c s at to j p l y =
     copy-falls (Wrapping n code) 1 _ (wrapping-sound n code) s₁ src dst d k s at to j c (p .copying) (p .count) l s₀ y q g
 
 pub ruleset wrapping-laws =
-    (copy-in, copy-from-fits, copy-to-fits, use-fits, use-end-fits, use-in, use-room, use-does, wrap-root-can, wrap-block-can, wrap-block-does, wrap-starts, wrap-ends, wrap-tree, wrap-deep, wrap-can, wrap-next, wrap-rooted)
+    (copy-in, copy-from-fits, use-fits, use-end-fits, use-in, use-room, use-does, wrap-root-can, wrap-block-can, wrap-block-does, wrap-starts, wrap-ends, wrap-tree, wrap-deep, wrap-can, wrap-next, wrap-rooted)
