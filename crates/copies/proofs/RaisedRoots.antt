@@ -78,11 +78,11 @@ module _ (rs : List Record) (src dst n d : ℕ) where
   raise-to h = omega (arith, h .raises .room, size-some (h .tree))
 
   module _ (r : Record) (e : r ≡ getD rs src noRecord) where
-    pub raise-field : CanRaiseRoot rs src dst n d → FieldFits n d (kindOf (r .kind)) (r .fields .a)
-    raise-field h = index-fits rs src r e (h .tree) (h .raises .there) n d (omega (arith, h .raises .small))
+    pub raise-field : CanRaiseRoot rs src dst n d → (k a : ℕ) → k ≡ r .kind → a ≡ r .fields .a → FieldFits n d (kindOf k) a
+    raise-field h k a p q = rw (p, q) (index-fits rs src r e (h .tree) (h .raises .there) n d (omega (arith, h .raises .small)))
 
-    pub raise-fits : CanRaiseRoot rs src dst n d → Fits w16 (r .next + 2 * n)
-    raise-fits h = omega (arith, ap (λ x. x .next) e, measure-read rs src (h .tree) (h .raises .there), bit-low (plain (h .tree)), h .raises .small)
+    pub raise-fits : CanRaiseRoot rs src dst n d → (v : ℕ) → v ≡ r .next + 2 * n → Fits w16 v
+    raise-fits h v q = omega (arith, ap (λ x. x .next) e, measure-read rs src (h .tree) (h .raises .there), bit-low (plain (h .tree)), h .raises .small)
 
     pub root-raises : (rs′ : List Record) (q : Record) (a : ℕ) → a ≡ movedField (raisedIndex n d) (kindOf (r .kind)) (r .fields .a)
         → q ≡ record { kind = r .kind; fields = withIndex (r .fields) a; first = r .first; next = r .next + 2 * n } → rs′ ≡ set rs dst q → RaisesRoot rs rs′ src dst n d
@@ -92,4 +92,4 @@ module _ (rs : List Record) (src dst n d : ℕ) where
           p ∙ ap (set rs dst) (g ∙ ap (λ x. record { kind = r .kind; fields = withIndex (r .fields) x; first = r .first; next = r .next + 2 * n }) f ∙ ap (raisedRoot n d) m ∙ sym (root-raised n d t l));
     }
 
-pub ruleset raising-root = (raise-first, raise-to)
+pub ruleset raising-root = (raise-first, raise-to, raise-field, raise-fits, root-raises)

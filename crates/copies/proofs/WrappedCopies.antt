@@ -210,4 +210,4 @@ wrap-falls s₀ src q g s₁ dst n code d k c s at to j p l y =
     copy-falls (Wrapping n code) 1 _ (wrapping-sound n code) s₁ src dst d k s at to j c (p .copying) (p .count) l s₀ y q g
 
 pub ruleset wrapping-laws =
-    (copy-in, copy-from-fits, use-fits, use-end-fits, use-in, use-room, use-does, wrap-root-can, wrap-block-can, wrap-block-does, wrap-starts, wrap-ends, wrap-tree, wrap-deep, wrap-can, wrap-next, wrap-rooted)
+    (copy-in, copy-from-fits, use-fits, use-end-fits, use-in, use-put, use-room, use-does, wrap-root-can, wrap-block-can, wrap-block-does, wrap-starts, wrap-ends, wrap-tree, wrap-deep, wrap-can, wrap-next, wrap-rooted)

@@ -1,5 +1,5 @@
 -- `put_use` meets its contract. Assumes nothing.
-use Rattle.copies.proofs.WrappedCopies.{use-put, wrapping-laws}
+use Rattle.copies.proofs.WrappedCopies.{wrapping-laws}
 use borrow.Author.Needs.{needs}
 use Rattle.copies.proofs.wrapping.put_use.Statement.{statement}
 use Rattle.copies.proofs.wrapping.put_use.Tie as tie
@@ -13,5 +13,5 @@ put-use-spec =
     (λ c κs. search (wrapping-laws, needs))  -- put-requires-2
     (λ c. search (wrapping-laws, needs))  -- add-result
     (λ c. search (wrapping-laws, needs))  -- same-length
-    (λ c. use-put _ _ _ _ _ _ (c .before .before .before .before .before .before .put .ensures .things) (c .before .before .put2 .ensures .things))  -- returns
+    (λ c. search (wrapping-laws, needs))  -- returns
     )
