@@ -11,7 +11,7 @@ use mathlib.Core.Path.{_≡_, refl, sym, ap, _∙_}
 use lib.Dec.{eqb, ltb}
 use lib.ListN.{length, getD}
 use borrow.Author.Tests.{lt-ltb, le-ltb, eq-eqb, ne-eqb}
-use mir.Syntax.{w64}
+use mir.Syntax.{w16, w64}
 use mir.Val.{Fits}
 use Rattle.rules.specs.Lists.{pick, All}
 use Rattle.rules.specs.Kinds.{variable, childCount, kindOf}
@@ -24,19 +24,23 @@ use Rattle.rules.proofs.Shifts.{unnamed}
 use Rattle.rules.proofs.FreeBounds.{replacing-low}
 use Rattle.rules.proofs.ChangedBounds.{bound-wrapped, bound-replaced}
 use Rattle.rules.proofs.Events.{gave-most}
-use Rattle.terms.specs.Preorder.{head, At}
-use Rattle.terms.specs.Measuring.{bindersOver, MarksRoot}
+use Rattle.records.specs.View.{recordsIn}
+use Rattle.terms.specs.Preorder.{head, At, HasTree, Skips}
+use Rattle.terms.specs.Moves.{CanMove}
+use Rattle.terms.specs.Measuring.{bindersOver, HasRooted, MarksRoot}
 use Rattle.substitution.specs.declared.arguments.Argument.{Argument}
 use Rattle.substitution.specs.declared.arguments.Argument.the-variants.{Tree, Quote, Opened}
 use Rattle.substitution.specs.declared.arguments.Arguments.{Arguments}
+use Rattle.substitution.specs.declared.replacing.Copied.{Copied}
 use Rattle.substitution.specs.Arguments.{described}
-use Rattle.copies.specs.Copying.{Way, CopyAt, CanCopy, Counts, BlockMoved, isNamed, MovesRoot}
+use Rattle.copies.specs.Copying.{Way, CopyAt, CanCopy, BlockMoved, isNamed, MovesRoot}
 use Rattle.substitution.specs.Making.{MakingAt, CanCopyArgument, CopiesArgument}
 use Rattle.substitution.specs.Replacing.{Given, Replacing, Replaces}
 use Rattle.copies.proofs.RaisedRoots.{size-raised}
 use Rattle.copies.proofs.Rows.{child}
 use Rattle.substitution.proofs.Sums.{low-summed, Adding, adding-starts, adding-next, adding-most, adding-ends}
-use Rattle.copies.proofs.Copies.{Stays, tree-stays, Sound, Spot, named, read-root, read-bound, read-spot, RootOf, Copying, root-of, block-does, copy-ends, next-one, next-meant, next-copy, over, copying}
+use Rattle.copies.proofs.Copies.{Stays, tree-stays, Sound, Spot, named, read-root, read-bound, read-spot, RootOf, Copying, root-of, block-can, block-does, copy-in, copy-to, copy-from-fits, copy-to-fits}
+use Rattle.copies.proofs.Copies.{copy-starts, copy-ends, copy-rooted, copy-falls, next-one, next-meant, next-copy, over, turn-tree, turn-count, turn-deep, turn-can, turn-next}
 
 -- `lowered_index`
 pub lowered-stays : (i m d : ℕ) → i < d → i ≡ loweredIndex m d i
@@ -179,6 +183,9 @@ module _ (rs : List Record) (src dst d : ℕ) (g : Arguments) (r : Record) (e : 
     }
 
 -- A block: none gives way.
+pub block-fits : (rs : List Record) (src dst d : ℕ) (g : Arguments) → CanCopy (Replacing g) rs src dst d → (r : Record) → r ≡ getD rs src noRecord → r .next / 2 ≤ d → (n : ℕ) → n ≡ r .first → CanMove rs src dst n
+block-fits rs src dst d g h r e l n q = rw q (block-can (Replacing g) (g .count) _ (replacing-sound g) rs src dst d r e l h)
+
 pub block-replaces : (rs : List Record) (src dst d : ℕ) (g : Arguments) (r : Record) → r ≡ getD rs src noRecord → r .next / 2 ≤ d → (rs′ : List Record) (o : ℕ) → BlockMoved rs rs′ src dst (r .first) o
     → Replaces rs rs′ src dst d g (record { end = o; replaced = 0 })
 unfolding gaveWay
@@ -192,43 +199,110 @@ block-replaces rs src dst d g r e l rs′ o w = record {
     below : (d i : ℕ) → i < d → gives (g .count) d i ≡ 0
     below d i l = rw (lt-ltb i d l)
 
--- How many give way, counted child by child.
-module _ (M : Way) (m : ℕ) (rs₁ : List Record) (src dst d k : ℕ) where
-  pub count-starts : Adding (RootOf M m rs₁ src dst d k) (gives m) 0 d 0 0
-  count-starts = adding-starts (RootOf M m rs₁ src dst d k) (gives m) 0 d (λ t g f e. ap (λ z. pick {A = ℕ} z 1 0) (g .rooted .unnamed f e))
+-- The loop over the children: of the n children of the root at src, child j is the next to be copied, from `at` to `to`, and z variables gave way
+-- in those before it.
+pub record ReplacingChildren (g : Arguments) (rs₁ : List Record) (src dst d k n : ℕ) (rs : List Record) (at to z j : ℕ) : Type 0 where
+  count : n ≡ childCount (kindOf k)
+  copying : Copying (Replacing g) (g .count) rs₁ src dst d k rs at to j
+  adding : Adding (RootOf (Replacing g) (g .count) rs₁ src dst d k) (gives (g .count)) 0 d j z
 
-module _ (M : Way) (m : ℕ) (moved : ℕ → ℕ → ℕ) (S : Sound M m moved) (rs₁ : List Record) (src dst d k : ℕ) (rs : List Record) (at to j n : ℕ) (p : Copying M m rs₁ src dst d k rs at to j)
-    (o : n ≡ childCount (kindOf k)) (l : j < n) (u : ℕ) (b : u ≡ bindersOver (kindOf k) j) (x y : ℕ) (a : Adding (RootOf M m rs₁ src dst d k) (gives m) 0 d j x) (c : Counts M m rs at to (d + u) y) where
-  counted : (t : Term) → RootOf M m rs₁ src dst d k t → (j < childCount (rootKind t)) × (y ≡ summed (gives m) 0 (d + bindersOver (rootKind t) j) (child t j))
+-- A root that stays.
+module _ (rs : List Record) (src dst d : ℕ) (g : Arguments) (r : Record) (rs₁ : List Record) (w : MovesRoot (loweredIndex (g .count) d) rs rs₁ dst r) (e : r ≡ getD rs src noRecord)
+    (l : d < r .next / 2) (n : ℕ) (o : n ≡ childCount (kindOf (r .kind))) (x : Bool) (i : x ≡ isNamed n (g .count) d (r .fields .a)) (y : x ≡ false) where
+  pub children-start : CanCopy (Replacing g) rs src dst d → (k : ℕ) → k ≡ r .kind → ReplacingChildren g rs₁ src dst d k n rs₁ (src + 1) (dst + 1) 0 0
+  children-start h k q = rw q (record {
+    count = o;
+    copying = copy-starts (Replacing g) (g .count) _ (replacing-sound g) rs src dst d r e l n o x i y rs₁ w h;
+    adding = adding-starts _ (gives (g .count)) 0 d (λ t v f q. ap (λ z. pick {A = ℕ} z 1 0) (v .rooted .unnamed f q));
+  })
+
+  -- Once its children are copied, the copy is whole, and all that gave way are counted.
+  pub root-replaces : (rs₂ : List Record) (at to z j : ℕ) → ReplacingChildren g rs₁ src dst d (r .kind) n rs₂ at to z j → n ≤ j → (rs₃ : List Record) (end : ℕ) → MarksRoot rs₂ rs₃ dst end
+      → Replaces rs rs₃ src dst d g (record { end = end; replaced = z })
   unfolding gaveWay
-  counted t g =
-      let v = over M m moved S rs₁ src dst d k rs at to j n p o l u b t g in
-      let q = next-copy M m moved S rs₁ src dst d k rs at to j n p o l t g in (
-        next-one M m moved S rs₁ src dst d k rs at to j n p o l t g,
-        rw v at (c .is (g .lo) (g .hi) (g .reach) (g .change) (child t j) (next-meant M m moved S rs₁ src dst d k rs at to j n p o l t g) (rw v q)),
-      )
+  root-replaces rs₂ at to z j p q rs₃ end k = record {
+    copies = copy-ends (Replacing g) (g .count) _ (replacing-sound g) rs src dst d r e l n o x i y rs₁ w rs₂ at to j (p .copying) q rs₃ end k;
+    counts = record {
+      is = λ lo hi b c t s h.
+          let v = root-of (Replacing g) (g .count) (λ d. loweredIndex (g .count) d) (replacing-sound g) rs src dst d r e l n o x i y rs₁ w lo hi b c t s h in
+          adding-ends (RootOf (Replacing g) (g .count) rs₁ src dst d (r .kind)) (gives (g .count)) 0 d j z (p .adding) t v (omega (arith, o, ap childCount (v .rooted .kind)));
+    };
+  }
 
-  pub count-next : Adding (RootOf M m rs₁ src dst d k) (gives m) 0 d (j + 1) (x + y)
-  count-next = adding-next (RootOf M m rs₁ src dst d k) (gives m) 0 d j x a y counted
+-- How far the children are copied: all are.
+module _ (g : Arguments) (rs₁ : List Record) (src dst d k n : ℕ) (rs : List Record) (at to z j : ℕ) (p : ReplacingChildren g rs₁ src dst d k n rs at to z j) where
+  pub children-copied : n ≤ j → HasRooted rs dst
+  children-copied l = copy-rooted (Replacing g) (g .count) _ (replacing-sound g) rs₁ src dst d k rs at to j n (p .copying) (p .count) l
 
-  pub count-fits : Fits w64 (x + y)
-  unfolding gaveWay
-  count-fits = omega (arith, adding-most (RootOf M m rs₁ src dst d k) (gives m) 0 d j x a y counted (p .tree) (p .of), gave-most m d (p .tree), p .of .rooted .fits .low)
+  -- One is left.
+  module _ (l : j < n) where
+    pub child-tree : HasTree rs at
+    child-tree = turn-tree (Replacing g) (g .count) _ (replacing-sound g) rs₁ src dst d k rs at to j n (p .copying) (p .count) l
 
--- The copy is whole, and all are counted.
-pub root-replaces : (rs : List Record) (src dst d : ℕ) (g : Arguments) (r : Record) → r ≡ getD rs src noRecord → d < r .next / 2 → (n : ℕ) → n ≡ childCount (kindOf (r .kind)) → (x : Bool)
-    → x ≡ isNamed n (g .count) d (r .fields .a) → x ≡ false → (rs₁ : List Record) → MovesRoot (loweredIndex (g .count) d) rs rs₁ dst r → (rs₂ : List Record) (at to j : ℕ)
-    → Copying (Replacing g) (g .count) rs₁ src dst d (r .kind) rs₂ at to j → n ≤ j → (z : ℕ) → Adding (RootOf (Replacing g) (g .count) rs₁ src dst d (r .kind)) (gives (g .count)) 0 d j z
-    → (rs₃ : List Record) (end : ℕ) → MarksRoot rs₂ rs₃ dst end → Replaces rs rs₃ src dst d g (record { end = end; replaced = z })
-unfolding gaveWay
-root-replaces rs src dst d g r e l n o x i y rs₁ w rs₂ at to j p q z a rs₃ end k = record {
-  copies = copy-ends (Replacing g) (g .count) _ (replacing-sound g) rs src dst d r e l n o x i y rs₁ w rs₂ at to j p q rs₃ end k;
-  counts = record {
-    is = λ lo hi b c t s h.
-        let v = root-of (Replacing g) (g .count) (λ d. loweredIndex (g .count) d) (replacing-sound g) rs src dst d r e l n o x i y rs₁ w lo hi b c t s h in
-        adding-ends (RootOf (Replacing g) (g .count) rs₁ src dst d (r .kind)) (gives (g .count)) 0 d j z a t v (omega (arith, o, ap childCount (v .rooted .kind)));
-  };
-}
+    pub child-counts : Fits w16 (j + 1)
+    child-counts = turn-count (Replacing g) (g .count) _ (replacing-sound g) rs₁ src dst d k rs at to j n (p .copying) (p .count) l
 
-pub ruleset replacing-laws =
-    (copying, replacing-sound, lowered-stays, lowered-falls, use-can, use-replaces, block-replaces, count-starts, count-next, count-fits, root-replaces)
+    module _ (u : ℕ) (b : u ≡ bindersOver (kindOf k) j) where
+      pub child-deep : (e : ℕ) → e ≡ d + u → Fits w16 e
+      child-deep e q = rw q (turn-deep (Replacing g) (g .count) _ (replacing-sound g) rs₁ src dst d k rs at to j n (p .copying) (p .count) l u b)
+
+      pub child-can : CanCopy (Replacing g) rs at to (d + u)
+      child-can = turn-can (Replacing g) (g .count) _ (replacing-sound g) rs₁ src dst d k rs at to j n (p .copying) (p .count) l u b
+
+      -- Its copy, in which as many gave way as its variables say.
+      module _ (rs′ : List Record) (r : Copied) (w : Replaces rs rs′ at to (d + u) g r) where
+        counted : (t : Term) → RootOf (Replacing g) (g .count) rs₁ src dst d k t
+            → (j < childCount (rootKind t)) × (r .replaced ≡ summed (gives (g .count)) 0 (d + bindersOver (rootKind t) j) (child t j))
+        unfolding gaveWay
+        counted t v =
+            let o = over (Replacing g) (g .count) _ (replacing-sound g) rs₁ src dst d k rs at to j n (p .copying) (p .count) l u b t v in
+            let q = next-copy (Replacing g) (g .count) _ (replacing-sound g) rs₁ src dst d k rs at to j n (p .copying) (p .count) l t v in
+            let m = next-meant (Replacing g) (g .count) _ (replacing-sound g) rs₁ src dst d k rs at to j n (p .copying) (p .count) l t v in (
+              next-one (Replacing g) (g .count) _ (replacing-sound g) rs₁ src dst d k rs at to j n (p .copying) (p .count) l t v,
+              rw o at (w .counts .is (v .lo) (v .hi) (v .reach) (v .change) (child t j) m (rw o q)),
+            )
+
+        pub replaced-fits : Fits w64 (z + r .replaced)
+        unfolding gaveWay
+        replaced-fits =
+            let v = p .copying in
+            omega (arith, adding-most _ (gives (g .count)) 0 d j z (p .adding) (r .replaced) counted (v .tree) (v .of), gave-most (g .count) d (v .tree), v .of .rooted .fits .low)
+
+-- The child is copied, and the one after it is next.
+pub child-replaced : (g : Arguments) (rs rs′ : List Record) (at to d u : ℕ) (r : Copied) → Replaces rs rs′ at to (d + u) g r → (rs₁ : List Record) (src dst k n z j : ℕ)
+    → ReplacingChildren g rs₁ src dst d k n rs at to z j → (end : ℕ) → Skips rs at end → j < n → u ≡ bindersOver (kindOf k) j → (to′ z′ : ℕ) → to′ ≡ r .end → z′ ≡ z + r .replaced
+    → ReplacingChildren g rs₁ src dst d k n rs′ end to′ z′ (j + 1)
+child-replaced g rs rs′ at to d u r w rs₁ src dst k n z j p end sk l b to′ z′ x y = rw (x, y) (record {
+  count = p .count;
+  copying = turn-next (Replacing g) (g .count) _ (replacing-sound g) rs₁ src dst d k rs at to j n (p .copying) (p .count) l u b end sk rs′ (r .end) (w .copies);
+  adding = adding-next _ (gives (g .count)) 0 d j z (p .adding) (r .replaced) (counted g rs₁ src dst d k n rs at to z j p l u b rs′ r w);
+})
+
+-- What falls is the number of records from the tree on.
+pub child-falls : (g : Arguments) (s₁ : List ℕ) (src dst d k n : ℕ) (s : List ℕ) (at to z j : ℕ) → ReplacingChildren g (recordsIn s₁) src dst d k n (recordsIn s) at to z j → j < n
+    → (s₀ : List ℕ) → length s₁ ≡ length s₀ → (q : ℕ) → length (recordsIn s₀) - src ≡ q → length (recordsIn s) - at < q
+child-falls g s₁ src dst d k n s at to z j p l s₀ y q o =
+    copy-falls (Replacing g) (g .count) _ (replacing-sound g) s₁ src dst d k s at to j n (p .copying) (p .count) l s₀ y q o
+
+pub ruleset replacing-laws = (
+  copy-in,
+  copy-to,
+  copy-from-fits,
+  copy-to-fits,
+  lowered-stays,
+  lowered-falls,
+  use-can,
+  use-replaces,
+  block-fits,
+  block-replaces,
+  children-start,
+  child-tree,
+  child-counts,
+  child-deep,
+  child-can,
+  child-falls,
+  replaced-fits,
+  child-replaced,
+  children-copied,
+  root-replaces,
+)
