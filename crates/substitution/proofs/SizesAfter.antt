@@ -35,12 +35,16 @@ pub record StaysAt (m : ℕ) (rs : List Record) (src d k : ℕ) (t : Term) : Typ
   pub kind : kindOf k ≡ rootKind t
   pub unnamed : (f : Fields) → t ≡ leaf variable f → namesRemoved m d (f .a) ≡ false
 
--- Before child j is counted, at `at`.
-pub record Walking (m : ℕ) (rs : List Record) (src d k at j : ℕ) : Type 0 where
-  pub all : (t : Term) → StaysAt m rs src d k t → Row rs src at j t
-  pub tree : Term
-  pub of : StaysAt m rs src d k tree
-  pub deep : d + 2 * size tree < 65536
+-- The loop over the children: child j, of n, is the next to be counted, at `at`, and y is counted before it.
+pub record Walking (m first second : ℕ) (rs : List Record) (src d k n y at j : ℕ) : Type 0 where
+  count : n ≡ childCount (kindOf k)
+  all : (t : Term) → StaysAt m rs src d k t → Row rs src at j t
+  adding : Adding (StaysAt m rs src d k) (weight m first second) 1 d j y
+  tree : Term
+  of : StaysAt m rs src d k tree
+  deep : d + 2 * size tree < 65536
+  first-small : first ≤ 65535
+  second-small : second ≤ 65535
 
 module _ (m first second : ℕ) where
   -- What is counted fits.
@@ -48,10 +52,10 @@ module _ (m first second : ℕ) where
   after-most d t p q = summed-most (weight m first second) 1 65535 (omega arith) (weight-most m first second 65535 (omega arith) p q) d t
 
   module _ (rs : List Record) (src d : ℕ) (r : Record) (e : r ≡ getD rs src noRecord) where
-    pub counts-block : r .next / 2 ≤ d → CountsSize rs src d m first second (r .first)
+    pub counts-block : r .next / 2 ≤ d → (n : ℕ) → n ≡ r .first → CountsSize rs src d m first second n
     unfolding sizeAfter
-    counts-block l = record {
-      is = λ t h. ap (λ q. q .first) (read-root rs src r e t h) ∙ sym (low-summed (weight m first second) 1 below d t (omega (arith, read-bound rs src r e t h)) ∙ one-mul (size t));
+    counts-block l n q = record {
+      is = λ t h. q ∙ ap (λ q. q .first) (read-root rs src r e t h) ∙ sym (low-summed (weight m first second) 1 below d t (omega (arith, read-bound rs src r e t h)) ∙ one-mul (size t));
     }
       where
         below : (d i : ℕ) → i < d → weight m first second d i ≡ 1
@@ -74,23 +78,28 @@ module _ (m first second : ℕ) where
             told : Spot m d t false → (f : Fields) → t ≡ leaf variable f → namesRemoved m d (f .a) ≡ false
             told (kept a) = a
 
-        pub walk-starts : CanCount rs src d first second → Walking m rs src d (r .kind) (src + 1) 0
-        walk-starts h = record { all = λ t q. row-starts rs src t (kids-there rs src t (q .there)); tree = h .tree; of = stays-at (h .tree) (h .there); deep = h .deep }
+        pub walk-starts : CanCount rs src d first second → (z : ℕ) → z ≡ r .kind → Walking m first second rs src d z k 1 (src + 1) 0
+        walk-starts h z q = rw q (record {
+          count = o;
+          all = λ t q. row-starts rs src t (kids-there rs src t (q .there));
+          adding = adding-starts _ (weight m first second) 1 d (λ t q f e. ap (λ b. pick b (pick (eqb (f .a) d) first second) 1) (q .unnamed f e));
+          tree = h .tree;
+          of = stays-at (h .tree) (h .there);
+          deep = h .deep;
+          first-small = h .first-small;
+          second-small = h .second-small;
+        })
 
-        pub walk-ends : (j n : ℕ) → Adding (StaysAt m rs src d (r .kind)) (weight m first second) 1 d j n → k ≤ j → CountsSize rs src d m first second n
+        pub walk-ends : (n at j : ℕ) → Walking m first second rs src d (r .kind) k n at j → k ≤ j → CountsSize rs src d m first second n
         unfolding sizeAfter
-        walk-ends j n a q = record {
-          is = λ t h. adding-ends (StaysAt m rs src d (r .kind)) (weight m first second) 1 d j n a t (stays-at t h) (omega (arith, o, ap childCount (stays-at t h .kind)));
+        walk-ends n at j p q = record {
+          is = λ t h. adding-ends (StaysAt m rs src d (r .kind)) (weight m first second) 1 d j n (p .adding) t (stays-at t h) (omega (arith, o, ap childCount (stays-at t h .kind)));
         }
 
-  pub sum-starts : (rs : List Record) (src d k : ℕ) → Adding (StaysAt m rs src d k) (weight m first second) 1 d 0 1
-  sum-starts rs src d k =
-      adding-starts (StaysAt m rs src d k) (weight m first second) 1 d (λ t q f e. ap (λ b. pick b (pick (eqb (f .a) d) first second) 1) (q .unnamed f e))
-
 -- A turn of the loop.
-module _ (m : ℕ) (rs : List Record) (src d k at j : ℕ) (p : Walking m rs src d k at j) (n : ℕ) (o : n ≡ childCount (kindOf k)) (l : j < n) where
+module _ (m first second : ℕ) (rs : List Record) (src d k n y at j : ℕ) (p : Walking m first second rs src d k n y at j) (l : j < n) where
   next-one : (t : Term) → StaysAt m rs src d k t → j < childCount (rootKind t)
-  next-one t q = omega (arith, o, ap childCount (q .kind))
+  next-one t q = omega (arith, p .count, ap childCount (q .kind))
 
   next-turn : (t : Term) (q : StaysAt m rs src d k t) → Turn rs src at j t
   next-turn t q = row-turn rs src at j t (p .all t q) (next-one t q)
@@ -99,42 +108,49 @@ module _ (m : ℕ) (rs : List Record) (src d k at j : ℕ) (p : Walking m rs src
   walk-tree = record { tree = child (p .tree) j; there = next-turn (p .tree) (p .of) .there }
 
   pub walk-count : Fits w16 (j + 1)
-  walk-count = omega (arith, few-children (kindOf k))
-
-  pub walk-next : (end : ℕ) → Skips rs at end → Walking m rs src d k end (j + 1)
-  walk-next end sk = record { all = λ t q. let v = next-turn t q in rw (sk .is (child t j) (v .there)) (v .next); tree = p .tree; of = p .of; deep = p .deep }
+  walk-count = omega (arith, p .count, few-children (kindOf k))
 
   module _ (u : ℕ) (b : u ≡ bindersOver (kindOf k) j) where
     pub walk-deep : Fits w16 (d + u)
     walk-deep = omega (arith, p .deep, b, binds-few (kindOf k) j, size-some (p .tree))
 
-    module _ (first second : ℕ) where
-      pub walk-can : CanCount rs src d first second → CanCount rs at (d + u) first second
-      walk-can h =
-          let q = next-turn (p .tree) (p .of) in
-          record {
-            tree = child (p .tree) j;
-            there = q .there;
-            deep = omega (arith, p .deep, b, binds-few (kindOf k) j, q .next .from, p .all (p .tree) (p .of) .begun);
-            first-small = h .first-small;
-            second-small = h .second-small;
-          }
+    pub walk-can : CanCount rs at (d + u) first second
+    walk-can =
+        let q = next-turn (p .tree) (p .of) in
+        record {
+          tree = child (p .tree) j;
+          there = q .there;
+          deep = omega (arith, p .deep, b, binds-few (kindOf k) j, q .next .from, p .all (p .tree) (p .of) .begun);
+          first-small = p .first-small;
+          second-small = p .second-small;
+        }
 
-      module _ (y z : ℕ) (a : Adding (StaysAt m rs src d k) (weight m first second) 1 d j y) (c : CountsSize rs at (d + u) m first second z) where
-        counted : (t : Term) → StaysAt m rs src d k t → (j < childCount (rootKind t)) × (z ≡ summed (weight m first second) 1 (d + bindersOver (rootKind t) j) (child t j))
-        unfolding sizeAfter
-        counted t q = (next-one t q, rw (b ∙ ap (λ x. bindersOver x j) (q .kind)) at (c .is (child t j) (next-turn t q .there)))
+    module _ (z : ℕ) (c : CountsSize rs at (d + u) m first second z) where
+      counted : (t : Term) → StaysAt m rs src d k t → (j < childCount (rootKind t)) × (z ≡ summed (weight m first second) 1 (d + bindersOver (rootKind t) j) (child t j))
+      unfolding sizeAfter
+      counted t q = (next-one t q, rw (b ∙ ap (λ x. bindersOver x j) (q .kind)) at (c .is (child t j) (next-turn t q .there)))
 
-        pub sum-next : Adding (StaysAt m rs src d k) (weight m first second) 1 d (j + 1) (y + z)
-        sum-next = adding-next (StaysAt m rs src d k) (weight m first second) 1 d j y a z counted
+      pub sum-fits : Fits w64 (y + z)
+      sum-fits = omega (
+        arith,
+        adding-most (StaysAt m rs src d k) (weight m first second) 1 d j y (p .adding) z counted (p .tree) (p .of),
+        after-most m first second d (p .tree) (p .first-small) (p .second-small),
+        p .deep,
+      )
 
-        pub sum-fits : CanCount rs src d first second → Fits w64 (y + z)
-        sum-fits h = omega (
-          arith,
-          adding-most (StaysAt m rs src d k) (weight m first second) 1 d j y a z counted (p .tree) (p .of),
-          after-most m first second d (p .tree) (h .first-small) (h .second-small),
-          p .deep,
-        )
+-- The child is counted, and the one after it is next.
+pub walk-next : (m first second : ℕ) (rs : List Record) (at d u z : ℕ) → CountsSize rs at (d + u) m first second z → (src k n y j : ℕ) → Walking m first second rs src d k n y at j → (end : ℕ)
+    → Skips rs at end → j < n → u ≡ bindersOver (kindOf k) j → (x : ℕ) → x ≡ y + z → Walking m first second rs src d k n x end (j + 1)
+walk-next m first second rs at d u z c src k n y j p end sk l b x e = rw e (record {
+  count = p .count;
+  all = λ t q. let v = next-turn m first second rs src d k n y at j p l t q in rw (sk .is (child t j) (v .there)) (v .next);
+  adding = adding-next _ (weight m first second) 1 d j y (p .adding) z (counted m first second rs src d k n y at j p l u b z c);
+  tree = p .tree;
+  of = p .of;
+  deep = p .deep;
+  first-small = p .first-small;
+  second-small = p .second-small;
+})
 
 pub count-in : (rs : List Record) (src d first second : ℕ) → CanCount rs src d first second → src < length rs
 count-in rs src d first second h = at-first rs src (h .tree) (h .there)
@@ -142,10 +158,9 @@ count-in rs src d first second h = at-first rs src (h .tree) (h .there)
 pub count-from-fits : (s : List ℕ) (src d first second : ℕ) → CanCount (recordsIn s) src d first second → length s < 2 ^ 64 → Fits w64 (src + 1)
 count-from-fits s src d first second h b = omega (arith, count-in (recordsIn s) src d first second h, records-length s)
 
-pub walk-falls : (m : ℕ) (s : List ℕ) (src d k at j : ℕ) → Walking m (recordsIn s) src d k at j → (n : ℕ) → n ≡ childCount (kindOf k) → j < n → (q : ℕ) → length (recordsIn s) - src ≡ q
+pub walk-falls : (m first second : ℕ) (s : List ℕ) (src d k n y at j : ℕ) → Walking m first second (recordsIn s) src d k n y at j → j < n → (q : ℕ) → length (recordsIn s) - src ≡ q
     → length (recordsIn s) - at < q
-walk-falls m s src d k at j p n o l q g =
-    omega (arith, p .all (p .tree) (p .of) .begun, at-first (recordsIn s) at _ (walk-tree m (recordsIn s) src d k at j p n o l .there))
+walk-falls m first second s src d k n y at j p l q g =
+    omega (arith, p .all (p .tree) (p .of) .begun, at-first (recordsIn s) at _ (walk-tree m first second (recordsIn s) src d k n y at j p l .there))
 
-pub ruleset counting =
-    (counts-block, counts-use, count-in, count-from-fits, walk-starts, sum-starts, walk-ends, walk-tree, walk-count, walk-deep, walk-next, walk-can, sum-next, sum-fits, walk-falls)
+pub ruleset counting = (counts-block, counts-use, count-in, count-from-fits, walk-starts, walk-ends, walk-tree, walk-count, walk-deep, walk-next, walk-can, sum-fits, walk-falls)

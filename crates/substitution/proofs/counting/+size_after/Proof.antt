@@ -1,11 +1,9 @@
 -- `size_after` meets its contract. Assumes nothing.
-use Rattle.substitution.proofs.SizesAfter.{counts-block, walk-starts, sum-starts, walk-next, sum-next, counting, StaysAt, Walking}
+use Rattle.substitution.proofs.SizesAfter.{Walking, counting}
 use borrow.Author.Needs.{needs}
 use Prim.Native.Nat.{ℕ, _-_, _<_}
 use lib.ListN.{length}
 use Rattle.records.specs.View.{recordsIn}
-use Rattle.substitution.specs.Counting.{weight}
-use Rattle.substitution.proofs.Sums.{Adding}
 use borrow.Fn.Kinds.{In}
 use borrow.Fn.PlainCycle.{Measures, is, falls, and}
 use Rattle.substitution.proofs.counting.size_after.Reads as size-after
@@ -49,7 +47,7 @@ size-after-claims t = (
 
 abbrev size-after-Inv-loop : size-after-lts.InvT-loop
 size-after-Inv-loop w src d m first second kind children n₀ at₀ j₀ n at j =
-    Walking m (recordsIn w) src d kind at j × Adding (StaysAt m (recordsIn w) src d kind) (weight m first second) 1 d j n
+    Walking m first second (recordsIn w) src d kind children n at j
 
 abbrev size-after-μ-loop : size-after-lts.MeasureT-loop
 size-after-μ-loop w src d m first second kind children n₀ at₀ j₀ n at j = children - j
@@ -59,13 +57,13 @@ pub +size-after-spec : {M : Type 1} → statement M
     (λ t. size-after-lts.spec (size-after-claims t) (size-after-at t) size-after.Post size-after-Inv-loop size-after-μ-loop
     (λ c κs. search (counting, needs))  -- get-requires
     (λ c. search (counting, needs))  -- cast-result
-    (λ c. counts-block _ _ _ _ _ _ _ (c .before .before .before .get .ensures) (c .before .if1 .taken))  -- returns
+    (λ c. search (counting, needs))  -- returns
     (λ c κs. search (counting, needs))  -- children-requires
     (λ c κs. search (counting, needs))  -- gives-way-requires
     (λ c κs. search (counting, needs))  -- chosen-size-requires
     (λ c. search (counting, needs))  -- returns-2
     (λ c. search (counting, needs))  -- add-at
-    (λ c. (walk-starts _ _ _ _ _ _ _ (c .before .before .before .before .before .get .ensures) (c .before .before .before .if1 .left) _ (c .before .before .children .ensures) _ (c .before .gives-way .ensures) (c .if2 .left) (c .before .before .before .before .before .before .before .pre .1), sum-starts _ _ _ _ _ _ _))  -- loop-holds
+    (λ c. search (counting, needs))  -- loop-holds
     (λ c κs. search (counting, needs))  -- skip-requires
     (λ c κs. search (counting, needs))  -- binders-over-requires
     (λ c. search (counting, needs))  -- add-size-after
@@ -73,6 +71,6 @@ pub +size-after-spec : {M : Type 1} → statement M
     (λ c. search (counting, needs))  -- add-n
     (λ c. search (counting, needs))  -- add-j
     (λ c. search (counting, needs))  -- loop-less
-    (λ c. (walk-next _ _ _ _ _ _ _ (c .before .before .before .before .loop .inv .0) _ (c .before .before .before .before .before .before .before .children .ensures) (c .before .before .before .loop-test .taken) _ (c .before .before .skip .ensures), sum-next _ _ _ _ _ _ _ (c .before .before .before .before .loop .inv .0) _ (c .before .before .before .before .before .before .before .children .ensures) (c .before .before .before .loop-test .taken) _ (c .before .binders-over .ensures) _ _ _ _ (c .before .before .before .before .loop .inv .1) (c .size-after .ensures)))  -- loop-again
+    (λ c. search (counting, needs))  -- loop-again
     (λ c. search (counting, needs))  -- returns-3
     )
