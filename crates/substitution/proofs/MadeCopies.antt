@@ -268,17 +268,24 @@ module _ (rs : List Record) (at ty a b dst n : ℕ) where
         can-over rs rs₁ (dst + 1) e _ (opened-written _ _ _ m rs₁ e w) (opened-room _ _ _ m rs₁ e w) (omega (arith, opened-few _ _ _ m rs₁ e w)) (opened-low _ _ _ m rs₁ e w) quote
 
     module _ (rs₂ : List Record) (o : ℕ) (q : PutsOver rs₁ rs₂ (dst + 1) 7 b 0 o) where
-      pub opened-outer : CanCopyArgument rs (Opened at ty a b) dst n → CanPutOver rs₂ dst 3
-      opened-outer h =
-          let m = h .makes in
-          can-over rs rs₂ dst o _ (quote-written _ _ _ m rs₁ e w rs₂ o q) (quote-room _ _ _ m rs₁ e w rs₂ o q) (quote-few _ _ _ m rs₁ e w rs₂ o q) (quote-low _ _ _ m rs₁ e w rs₂ o q) function
-
       pub opened-does : (rs₃ : List Record) (r : ℕ) → PutsOver rs₂ rs₃ dst 3 ty a r → CopiesArgument rs rs₃ (Opened at ty a b) dst n r
       opened-does rs₃ r p = record {
         does = λ lo hi t h.
             rw (opened-is lo hi t h)
             (over-written rs rs₂ dst o _ (quote-written lo hi t h rs₁ e w rs₂ o q) (quote-room lo hi t h rs₁ e w rs₂ o q) (quote-few lo hi t h rs₁ e w rs₂ o q) (quote-low lo hi t h rs₁ e w rs₂ o q) function rs₃ ty a r p);
       }
+
+-- The function comes over the quote.
+pub opened-outer : (rs : List Record) (at ty a b dst n : ℕ) → CanCopyArgument rs (Opened at ty a b) dst n → (rs₁ : List Record) (e : ℕ) → Copies (Wrapping n a) rs rs₁ at (dst + 1 + 1) 0 e
+    → (rs₂ : List Record) (o : ℕ) → PutsOver rs₁ rs₂ (dst + 1) 7 b 0 o → (rs₃ : List Record) → rs₃ ≡ rs₂ → CanPutOver rs₃ dst 3
+opened-outer rs at ty a b dst n h rs₁ e w rs₂ o q rs₃ z = rw z (
+    let m = h .makes in
+    can-over rs rs₂ dst o _
+    (quote-written rs at ty a b dst n _ _ _ m rs₁ e w rs₂ o q)
+    (quote-room rs at ty a b dst n _ _ _ m rs₁ e w rs₂ o q)
+    (quote-few rs at ty a b dst n _ _ _ m rs₁ e w rs₂ o q)
+    (quote-low rs at ty a b dst n _ _ _ m rs₁ e w rs₂ o q)
+    function)
 
 -- Places.
 pub made-fits : (s : List ℕ) (g : Argument) (dst n : ℕ) → CanCopyArgument (recordsIn s) g dst n → length s < 2 ^ 64 → Fits w64 (dst + 1)

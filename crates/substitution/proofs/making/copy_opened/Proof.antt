@@ -1,5 +1,5 @@
 -- `copy_opened` meets its contract. Assumes nothing.
-use Rattle.substitution.proofs.MadeCopies.{opened-outer, making}
+use Rattle.substitution.proofs.MadeCopies.{making}
 use borrow.Author.Needs.{needs}
 use Rattle.substitution.proofs.making.copy_opened.Statement.{statement}
 use Rattle.substitution.proofs.making.copy_opened.Tie as tie
@@ -11,7 +11,7 @@ copy-opened-spec =
     (λ c. search (making, needs))  -- add-copy-wrapped
     (λ c κs. search (making, needs))  -- copy-wrapped-requires
     (λ c κs. search (making, needs))  -- put-over-requires
-    (λ c κs. opened-outer _ _ _ _ _ _ _ _ _ (c .before .before .before .before .before .before .before .copy-wrapped .ensures) _ _ (c .before .before .before .put-over .ensures) (c .before .before .before .before .before .before .before .before .before .before .pre))  -- put-over-requires-2
+    (λ c κs. search (making, needs))  -- put-over-requires-2
     (λ c. search (making, needs))  -- same-length
     (λ c. search (making, needs))  -- returns
     )
