@@ -246,8 +246,9 @@ module _ (g : Arguments) (rs₁ : List Record) (src dst d k n : ℕ) (rs : List 
       pub child-deep : (e : ℕ) → e ≡ d + u → Fits w16 e
       child-deep e q = rw q (turn-deep (Replacing g) (g .count) _ (replacing-sound g) rs₁ src dst d k rs at to j n (p .copying) (p .count) l u b)
 
-      pub child-can : CanCopy (Replacing g) rs at to (d + u)
-      child-can = turn-can (Replacing g) (g .count) _ (replacing-sound g) rs₁ src dst d k rs at to j n (p .copying) (p .count) l u b
+      -- The arguments and the number of binders may be written in another way.
+      pub child-can : (g′ : Arguments) (e : ℕ) → g′ ≡ g → e ≡ d + u → CanCopy (Replacing g′) rs at to e
+      child-can g′ e x y = rw (x, y) (turn-can (Replacing g) (g .count) _ (replacing-sound g) rs₁ src dst d k rs at to j n (p .copying) (p .count) l u b)
 
       -- Its copy, in which as many gave way as its variables say.
       module _ (rs′ : List Record) (r : Copied) (w : Replaces rs rs′ at to (d + u) g r) where

@@ -1,7 +1,7 @@
 -- `copy_replaced` meets its contract. Assumes nothing.
 use borrow.Author.Needs.{needs}
 use Prim.Native.Nat.{ℕ, _-_, _<_}
-use mathlib.Core.Path.{_≡_, refl}
+use mathlib.Core.Path.{_≡_}
 use lib.ListN.{length}
 use Rattle.records.specs.View.{recordsIn}
 use Rattle.substitution.proofs.ReplacedCopies.{ReplacingChildren, replacing-laws}
@@ -82,15 +82,15 @@ pub +copy-replaced-spec : {M : Type 1} → statement M
     (λ c κs. search (replacing-laws, needs))  -- lower-root-requires
     (λ c. search (replacing-laws, needs))  -- add-at
     (λ c. search (replacing-laws, needs))  -- add-to
-    (λ c. (refl, search (replacing-laws, needs)))  -- loop-holds
+    (λ c. (search needs, search (replacing-laws, needs)))  -- loop-holds
     (λ c κs. search (replacing-laws, needs))  -- skip-requires
     (λ c κs. search (replacing-laws, needs))  -- binders-over-requires
     (λ c. search (replacing-laws, needs))  -- add-copy-replaced
-    (λ c κs. (search (replacing-laws, needs), search (replacing-laws, needs, c .before .before .before .before .before .loop .inv .1)))  -- copy-replaced-requires
+    (λ c κs. search (replacing-laws, needs))  -- copy-replaced-requires
     (λ c. search (replacing-laws, needs))  -- add-replaced
     (λ c. search (replacing-laws, needs))  -- add-j
     (λ c. search (replacing-laws, needs))  -- loop-less
-    (λ c. (search (replacing-laws, needs), search (replacing-laws, needs)))  -- loop-again
+    (λ c. search (replacing-laws, needs))  -- loop-again
     (λ c κs. search (replacing-laws, needs))  -- mark-root-requires
     (λ c. search (replacing-laws, needs))  -- same-length-3
     (λ c. search (replacing-laws, needs))  -- returns-3
