@@ -302,4 +302,4 @@ pub argument-does : (rs rs′ : List Record) (g g′ : Argument) (dst n r : ℕ)
 argument-does rs rs′ g g′ dst n r e h = rw e h
 
 pub ruleset making =
-    (over-in, over-can, over-puts, tree-there, tree-raises, tree-moves, tree-moved, tree-does, tree-fits, quoted-copies, quoted-over, quoted-does, opened-wraps, opened-inner, opened-outer, opened-does, made-fits, made-inner-fits)
+    (over-in, over-can, over-puts, tree-there, tree-raises, tree-moves, tree-moved, tree-does, tree-fits, quoted-copies, quoted-over, quoted-does, opened-wraps, opened-inner, opened-outer, opened-does, made-fits, made-inner-fits, argument-can, argument-does)

@@ -33,7 +33,7 @@ use Rattle.substitution.specs.declared.arguments.Argument.the-variants.{
 use Rattle.substitution.specs.declared.arguments.Arguments.{Arguments}
 use Rattle.substitution.specs.declared.replacing.Copied.{Copied}
 use Rattle.substitution.specs.Arguments.{described}
-use Rattle.copies.specs.Copying.{Way, CopyAt, CanCopy, BlockMoved, isNamed, MovesRoot}
+use Rattle.copies.specs.Copying.{CopyAt, CanCopy, BlockMoved, isNamed, MovesRoot}
 use Rattle.substitution.specs.Making.{MakingAt, CanCopyArgument, CopiesArgument}
 use Rattle.substitution.specs.Replacing.{Given, Replacing, Replaces}
 use Rattle.copies.proofs.RaisedRoots.{size-raised}
