@@ -40,22 +40,35 @@ walk-below t = and 3 walk-kinds.ps (falls 3 walk-kinds.ps _<_ μ-walk t) walk.Pr
 abbrev walk-claims : ℕ → walk-lts.Claims
 walk-claims t = (own-refusal-reads.Asked, own-refusal-reads.Learnt, packed-reads.Asked, packed-reads.Learnt, first-child-reads.Asked, first-child-reads.Learnt, walk-below t, walk.Post, second-child-reads.Asked, second-child-reads.Learnt, third-child-reads.Asked, third-child-reads.Learnt)
 
--- The places where the record's own checks have passed, the tree of its first child, and that of its second; and from each the one before it.
+-- The places where the record's own checks have passed, where it has a first child, where that child's tree has passed, where it has a second child,
+-- and where that one's has passed; and from each the one before it.
 module _ (t : ℕ) where
   abbrev Own : Type 0
   Own = walk-lts.Else1 (walk-claims t) (walk-at t) walk.Post
 
+  abbrev HasFirst : Type 0
+  HasFirst = walk-lts.Else2 (walk-claims t) (walk-at t) walk.Post
+
   abbrev First : Type 0
   First = walk-lts.Else3 (walk-claims t) (walk-at t) walk.Post
+
+  abbrev HasSecond : Type 0
+  HasSecond = walk-lts.Else4 (walk-claims t) (walk-at t) walk.Post
 
   abbrev Second : Type 0
   Second = walk-lts.Else5 (walk-claims t) (walk-at t) walk.Post
 
-  abbrev own-of : First → Own
-  own-of c = c .before .before .before .before .before .before .before .before .before .before .before
+  abbrev own-of : HasFirst → Own
+  own-of c = c .before .before .before .before .before .before
 
-  abbrev first-of : Second → First
-  first-of c = c .before .before .before .before .before .before .before .before .before .before .before .before
+  abbrev child-of : First → HasFirst
+  child-of c = c .before .before .before .before .before
+
+  abbrev first-of : HasSecond → First
+  first-of c = c .before .before .before .before .before .before
+
+  abbrev second-of : Second → HasSecond
+  second-of c = c .before .before .before .before .before .before
 
   -- How far the walk has come there.
   abbrev Come : Own → List ℕ → ℕ → (List Record → ℕ → ℕ) → (Table → List Record → Env → ℕ → ℕ → Option Refusal) → Type 0
@@ -74,18 +87,18 @@ own-passed t c =
 
 first-passed : (t : ℕ) (c : First t) →
     let w = c .before .before .before .walk in
-    Come t (own-of t c) (w .last .1 .1 .0) (w .result) secondOf fromSecond
+    Come t (own-of t (child-of t c)) (w .last .1 .1 .0) (w .result) secondOf fromSecond
 first-passed t c =
-    let there = c .before .before .before .before .before in
-    passes-first _ _ _ _ _ _ _ _ _ _ (own-passed t (own-of t c)) _ (there .before .before .before .before .first-child .ensures) (there .if2 .left) _ _ (c .before .before .before .walk .ensures) (omega (arith, c .if3 .left))
+    let there = child-of t c in
+    passes-first _ _ _ _ _ _ _ _ _ _ (own-passed t (own-of t there)) _ (there .before .before .before .before .first-child .ensures) (there .if2 .left) _ _ (c .before .before .before .walk .ensures) (omega (arith, c .if3 .left))
     (search needs) (search needs)
 
 second-passed : (t : ℕ) (c : Second t) →
     let w = c .before .before .before .walk2 in
-    Come t (own-of t (first-of t c)) (w .last .1 .1 .0) (w .result) thirdOf fromThird
+    Come t (own-of t (child-of t (first-of t (second-of t c)))) (w .last .1 .1 .0) (w .result) thirdOf fromThird
 second-passed t c =
-    let there = c .before .before .before .before .before .before in
-    passes-second _ _ _ _ _ _ _ _ _ _ _ (first-passed t (first-of t c)) _ (there .before .before .before .before .second-child .ensures) (there .if4 .left) _ _ (c .before .before .before .walk2 .ensures) (omega (arith, c .if5 .left))
+    let there = second-of t c in
+    passes-second _ _ _ _ _ _ _ _ _ _ _ (first-passed t (first-of t there)) _ (there .before .before .before .before .second-child .ensures) (there .if4 .left) _ _ (c .before .before .before .walk2 .ensures) (omega (arith, c .if5 .left))
     (search needs) (search needs)
 
 pub +walk-spec : {M : Type 1} → statement M
@@ -100,17 +113,17 @@ pub +walk-spec : {M : Type 1} → statement M
     (λ c. search (walking, needs))  -- cast-result
     (λ c. search (walking, needs))  -- same-length-2
     (λ c. search (walking, needs, own-passed t (c .before .before .before .before .before .before)))  -- returns-2
-    (λ c κs. search (walking, needs, own-passed t (c .before .before .before .before .before .before .before)))  -- walk-requires
+    (λ c κs. search (walking, needs, own-passed t (own-of t (c .before))))  -- walk-requires
     (λ c. search (walking, needs))  -- same-length-3
-    (λ c. search (walking, needs, own-passed t (c .before .before .before .before .before .before .before .before .before .before .before)))  -- returns-3
+    (λ c. search (walking, needs, own-passed t (own-of t (c .before .before .before .before .before))))  -- returns-3
     (λ c κs. search (walking, needs, first-passed t (c .before)))  -- second-child-requires
     (λ c. search (walking, needs))  -- same-length-4
     (λ c. search (walking, needs, first-passed t (c .before .before .before .before .before .before)))  -- returns-4
     (λ c κs. search (walking, needs, first-passed t (c .before .before .before .before .before .before)))  -- third-child-requires
     (λ c. search (walking, needs))  -- cast-walk
-    (λ c κs. search (walking, needs, first-passed t (c .before .before .before .before .before .before .before .before)))  -- walk-requires-2
-    (λ c. search (walking, needs, first-passed t (c .before .before .before .before .before .before .before .before .before .before .before .before)))  -- same-length-5
-    (λ c. search (walking, needs, first-passed t (c .before .before .before .before .before .before .before .before .before .before .before .before)))  -- returns-5
+    (λ c κs. search (walking, needs, first-passed t (first-of t (c .before .before))))  -- walk-requires-2
+    (λ c. search (walking, needs, first-passed t (first-of t (c .before .before .before .before .before .before))))  -- same-length-5
+    (λ c. search (walking, needs, first-passed t (first-of t (c .before .before .before .before .before .before))))  -- returns-5
     (λ c. search (walking, needs, second-passed t (c .before)))  -- same-length-6
     (λ c. search (walking, needs, second-passed t (c .before)))  -- returns-6
     (λ c. search (walking, needs))  -- cast-walk-2
