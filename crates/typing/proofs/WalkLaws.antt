@@ -31,6 +31,9 @@ use Rattle.typing.proofs.WalkedBy.{fromFirst, fromSecond, fromThird, wa
 pub one-left : (rs : List Record) (bs : List ℕ) (d n left : ℕ) → CanWalk rs bs d n left → 1 ≤ left
 one-left rs bs d n left can = omega (arith, can .enough, record-then-chain rs (can .chained) n (can .here .real) (can .here .within))
 
+pub rest-falls : (rs : List Record) (bs : List ℕ) (d n left : ℕ) → CanWalk rs bs d n left → (t : ℕ) → left ≡ t → left - 1 < t
+rest-falls rs bs d n left can t m = omega (arith, one-left rs bs d n left can)
+
 pub can-enter : (rs : List Record) (bs : List ℕ) (d n left : ℕ) → CanWalk rs bs d n left → CanEnter rs bs d n
 can-enter rs bs d n left can = record { here = can .here; room = omega (arith, can .room, one-left rs bs d n left can) }
 
@@ -70,7 +73,7 @@ module _ (types : Table) (rs : List Record) (bs : List ℕ) (d l n left : ℕ) (
   pub stops-own : (q : ℕ) → (v .number ≡ 0 → ⊥) → Packs v q → Walks types rs bs bs d l n left q
   stops-own q h p = record { tells = rw (p .holds, by-own) (tells-first v _ _ own h); counted = λ e. absurd (omega (arith, p .refused)); kept = refl }
 
-  pub passes-own : (t : ℕ) → v .number ≡ 0 → left ≡ t
+  passes-own : (t : ℕ) → v .number ≡ 0 → left ≡ t
       → WalkedSoFar t types rs bs bs d l n left (left - 1) (firstOf rs n) (fromFirst types rs (stack bs d) l n)
   passes-own t e m = let some = one-left rs bs d n left can in record {
     measure = m;
@@ -153,23 +156,27 @@ module _ (t : ℕ) (types : Table) (rs : List Record) (bs bs₀ : List ℕ) (d l
         }
 
 -- The same for the first child, the second and the third.
-module _ (t : ℕ) (types : Table) (rs : List Record) (bs bs₁ : List ℕ) (d l n left q : ℕ)
-    (far : WalkedSoFar t types rs bs bs d l n left q (firstOf rs n) (fromFirst types rs (stack bs d) l n)) (c : Child) (enters : EntersFirst rs bs bs₁ d l n c) where
-  pub ends-leaf : c .n ≡ 0 → Walks types rs bs bs₁ d l n left q
-  ends-leaf e = ends t types rs bs bs d l n left q _ _ far bs₁ (enters .enters .kept) (sym (enters .enters .number) ∙ e)
+module _ (types : Table) (rs : List Record) (bs bs₁ : List ℕ) (d l n left : ℕ) (c : Child) (enters : EntersFirst rs bs bs₁ d l n c) (can : CanWalk rs bs d n left) (v : Verdict)
+    (own : Tells v (judgedAt types rs (stack bs d) l n)) (z : v .number ≡ 0) where
+  far : (t : ℕ) → left ≡ t → WalkedSoFar t types rs bs bs d l n left (left - 1) (firstOf rs n) (fromFirst types rs (stack bs d) l n)
+  far t m = passes-own types rs bs d l n left v own can t z m
 
-  pub goes-first : (c .n ≡ 0 → ⊥) → length bs₁ ≡ length bs → CanWalk rs bs₁ (c .depth) (c .n) q
-  goes-first there = goes t types rs bs bs d l n left q _ _ far bs₁ c _ _ (enters .enters) (first-le rs n) there
+  pub ends-leaf : c .n ≡ 0 → Walks types rs bs bs₁ d l n left (left - 1)
+  ends-leaf e = ends left types rs bs bs d l n left (left - 1) _ _ (far left refl) bs₁ (enters .enters .kept) (sym (enters .enters .number) ∙ e)
 
-  module _ (there : c .n ≡ 0 → ⊥) (bs₂ : List ℕ) (p : ℕ) (walk : Walks types rs bs₁ bs₂ (c .depth) (c .level) (c .n) q p) where
+  pub goes-first : (c .n ≡ 0 → ⊥) → length bs₁ ≡ length bs → CanWalk rs bs₁ (c .depth) (c .n) (left - 1)
+  goes-first there = goes left types rs bs bs d l n left (left - 1) _ _ (far left refl) bs₁ c _ _ (enters .enters) (first-le rs n) there
+
+  module _ (there : c .n ≡ 0 → ⊥) (bs₂ : List ℕ) (p : ℕ) (walk : Walks types rs bs₁ bs₂ (c .depth) (c .level) (c .n) (left - 1) p) where
     pub stops-first : 65536 ≤ p → Walks types rs bs bs₂ d l n left p
     unfolding fromFirst
-    stops-first = stops t types rs bs bs d l n left q _ _ far bs₁ c _ _ (enters .enters) (first-le rs n) there bs₂ p walk _ refl
+    stops-first = stops left types rs bs bs d l n left (left - 1) _ _ (far left refl) bs₁ c _ _ (enters .enters) (first-le rs n) there bs₂ p walk _ refl
 
-    pub passes-first : p < 65536 → length bs₁ ≡ length bs → length bs₂ ≡ length bs₁
+    pub passes-first : p < 65536 → length bs₁ ≡ length bs → length bs₂ ≡ length bs₁ → (t : ℕ) → left ≡ t
         → WalkedSoFar t types rs bs bs₂ d l n left p (secondOf rs n) (fromSecond types rs (stack bs d) l n)
     unfolding fromFirst
-    passes-first = passes t types rs bs bs d l n left q _ _ far bs₁ c _ _ (enters .enters) (first-le rs n) there bs₂ p walk _ refl (second-nothing types rs (stack bs d) l n)
+    passes-first h same₁ same₂ t m =
+        passes t types rs bs bs d l n left (left - 1) _ _ (far t m) bs₁ c _ _ (enters .enters) (first-le rs n) there bs₂ p walk _ refl (second-nothing types rs (stack bs d) l n) h same₁ same₂
 
 module _ (t : ℕ) (types : Table) (rs : List Record) (bs bs₀ bs₁ : List ℕ) (d l n left q : ℕ)
     (far : WalkedSoFar t types rs bs bs₀ d l n left q (secondOf rs n) (fromSecond types rs (stack bs d) l n)) (c : Child) (enters : EntersSecond rs bs₀ bs₁ d l n c) where
@@ -235,4 +242,4 @@ pub root-told : (types : Table) (rs : List Record) (bs bs′ : List ℕ) (count 
 unfolding stack
 root-told types rs bs bs′ count p v h walk e = rw (e, ← h .all) (walk .tells)
 
-pub ruleset walking = (packs, passed-number, refused-number, one-left, can-enter, stops-own, passes-own, passed-enter, passed-read, passed-falls, ends-leaf, goes-first, stops-first, passes-first, ends-first, goes-second, stops-second, passes-second, ends-second, goes-third, ends-third)
+pub ruleset walking = (packs, passed-number, refused-number, one-left, rest-falls, can-enter, stops-own, passed-enter, passed-read, passed-falls, ends-leaf, goes-first, stops-first, ends-first, goes-second, stops-second, ends-second, goes-third, ends-third)

@@ -1,7 +1,6 @@
--- `walk` meets its contract. The measure is how many records are left. What the calls showed is gathered where the checks so far have passed:
--- `own-passed`, `first-passed` and `second-passed`, each of which the needs after it cite.
+-- `walk` meets its contract. The measure is how many records are left. What the calls showed is gathered where the tree of a child has passed:
+-- `first-passed` and `second-passed`, which the needs after it cite.
 use Prim.Native.Nat.{ℕ, _-_, _<_}
-use native.Mathlib.Omega.{arith}
 use mathlib.Core.List.{List}
 use mathlib.Core.Option.{Option}
 use borrow.Author.Needs.{needs}
@@ -10,13 +9,12 @@ use borrow.Fn.PlainCycle.{Measures, is, falls, and}
 use Rattle.rules.specs.Types.{Table}
 use Rattle.rules.specs.Typing.{Env}
 use Rattle.rules.specs.Format.{Record}
-use Rattle.rules.specs.Links.{firstOf}
 use Rattle.rules.specs.Refusals.{Refusal}
 use Rattle.records.specs.View.{entriesIn, recordsIn}
 use Rattle.judging.specs.Stack.{stack}
 use Rattle.typing.specs.Reading.{secondOf, thirdOf}
-use Rattle.typing.proofs.WalkedBy.{fromFirst, fromSecond, fromThird}
-use Rattle.typing.proofs.WalkLaws.{WalkedSoFar, passes-own, passes-first, passes-second, walking}
+use Rattle.typing.proofs.WalkedBy.{fromSecond, fromThird}
+use Rattle.typing.proofs.WalkLaws.{WalkedSoFar, passes-first, passes-second, walking}
 use Rattle.typing.proofs.walk.Reads as walk
 use Rattle.typing.proofs.walk.Kinds as walk-kinds
 use Rattle.typing.proofs.+walk.Lts-walk as walk-lts
@@ -78,28 +76,15 @@ module _ (t : ℕ) where
       let rs = recordsIn (a .records .now) in
       WalkedSoFar t types rs (a .binders .now) bs (a .depth) (a .level) (a .n) (a .left) q (child rs (a .n)) (rest types rs (stack (a .binders .now) (a .depth)) (a .level) (a .n))
 
-own-passed : (t : ℕ) (c : Own t) →
-    let start = c .before .before .before .before .before .before .before in
-    Come t c (start .args .binders .now) (start .args .left - 1) firstOf fromFirst
-own-passed t c =
-    let start = c .before .before .before .before .before .before .before in
-    passes-own _ _ _ _ _ _ _ _ (c .before .before .own-refusal .ensures) (start .pre .1) t (c .if1 .left) (start .pre .0)
-
 first-passed : (t : ℕ) (c : First t) →
     let w = c .before .before .before .walk in
     Come t (own-of t (child-of t c)) (w .last .1 .1 .0) (w .result) secondOf fromSecond
-first-passed t c =
-    let there = child-of t c in
-    passes-first _ _ _ _ _ _ _ _ _ _ (own-passed t (own-of t there)) _ (there .before .before .before .before .first-child .ensures) (there .if2 .left) _ _ (c .before .before .before .walk .ensures) (omega (arith, c .if3 .left))
-    (search needs) (search needs)
+first-passed t c = search (passes-first, needs)
 
 second-passed : (t : ℕ) (c : Second t) →
     let w = c .before .before .before .walk2 in
     Come t (own-of t (child-of t (first-of t (second-of t c)))) (w .last .1 .1 .0) (w .result) thirdOf fromThird
-second-passed t c =
-    let there = second-of t c in
-    passes-second _ _ _ _ _ _ _ _ _ _ _ (first-passed t (first-of t there)) _ (there .before .before .before .before .second-child .ensures) (there .if4 .left) _ _ (c .before .before .before .walk2 .ensures) (omega (arith, c .if5 .left))
-    (search needs) (search needs)
+second-passed t c = search (passes-second, needs, first-passed t (first-of t (second-of t c)))
 
 pub +walk-spec : {M : Type 1} → statement M
 +walk-spec = close μ-walk
@@ -109,22 +94,22 @@ pub +walk-spec : {M : Type 1} → statement M
     (λ c. search (walking, needs))  -- same-length
     (λ c. search (walking, needs))  -- returns
     (λ c. search (walking, needs))  -- sub-rest
-    (λ c κs. search (walking, needs, own-passed t (c .before)))  -- first-child-requires
+    (λ c κs. search (walking, needs))  -- first-child-requires
     (λ c. search (walking, needs))  -- cast-result
     (λ c. search (walking, needs))  -- same-length-2
-    (λ c. search (walking, needs, own-passed t (c .before .before .before .before .before .before)))  -- returns-2
-    (λ c κs. search (walking, needs, own-passed t (own-of t (c .before))))  -- walk-requires
+    (λ c. search (walking, needs))  -- returns-2
+    (λ c κs. (search (walking, needs), search (walking, needs)))  -- walk-requires
     (λ c. search (walking, needs))  -- same-length-3
-    (λ c. search (walking, needs, own-passed t (own-of t (c .before .before .before .before .before))))  -- returns-3
+    (λ c. search (walking, needs))  -- returns-3
     (λ c κs. search (walking, needs, first-passed t (c .before)))  -- second-child-requires
     (λ c. search (walking, needs))  -- same-length-4
     (λ c. search (walking, needs, first-passed t (c .before .before .before .before .before .before)))  -- returns-4
-    (λ c κs. search (walking, needs, first-passed t (c .before .before .before .before .before .before)))  -- third-child-requires
+    (λ c κs. search (walking, needs, first-passed t (first-of t c)))  -- third-child-requires
     (λ c. search (walking, needs))  -- cast-walk
     (λ c κs. search (walking, needs, first-passed t (first-of t (c .before .before))))  -- walk-requires-2
-    (λ c. search (walking, needs, first-passed t (first-of t (c .before .before .before .before .before .before))))  -- same-length-5
+    (λ c. search (walking, needs))  -- same-length-5
     (λ c. search (walking, needs, first-passed t (first-of t (c .before .before .before .before .before .before))))  -- returns-5
-    (λ c. search (walking, needs, second-passed t (c .before)))  -- same-length-6
+    (λ c. search (walking, needs))  -- same-length-6
     (λ c. search (walking, needs, second-passed t (c .before)))  -- returns-6
     (λ c. search (walking, needs))  -- cast-walk-2
     (λ c κs. search (walking, needs, second-passed t (c .before .before)))  -- walk-requires-3
