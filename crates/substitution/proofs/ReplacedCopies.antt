@@ -1,5 +1,5 @@
 -- `copy_replaced`: replacing is a sound way to copy, a variable that gives way is written out, and those that do are counted. `replacing-laws` for
--- search.
+-- search: where a law asks that a number or a record is equal to what it stands for, search finds it without unfolding the one to see the other.
 use Prim.Native.Nat.{ℕ, suc, _+_, _-_, _/_, _≤_, _<_}
 use native.Mathlib.Omega.{arith}
 use native.Mathlib.Nat.{zero-mul}
@@ -229,8 +229,8 @@ module _ (rs : List Record) (src dst d : ℕ) (g : Arguments) (r : Record) (rs�
     };
   }
 
--- How far the children are copied: all are.
 module _ (g : Arguments) (rs₁ : List Record) (src dst d k n : ℕ) (rs : List Record) (at to z j : ℕ) (p : ReplacingChildren g rs₁ src dst d k n rs at to z j) where
+  -- All children are copied.
   pub children-copied : n ≤ j → HasRooted rs dst
   children-copied l = copy-rooted (Replacing g) (g .count) _ (replacing-sound g) rs₁ src dst d k rs at to j n (p .copying) (p .count) l
 
@@ -246,7 +246,6 @@ module _ (g : Arguments) (rs₁ : List Record) (src dst d k n : ℕ) (rs : List 
       pub child-deep : (e : ℕ) → e ≡ d + u → Fits w16 e
       child-deep e q = rw q (turn-deep (Replacing g) (g .count) _ (replacing-sound g) rs₁ src dst d k rs at to j n (p .copying) (p .count) l u b)
 
-      -- The arguments and the number of binders may be written in another way.
       pub child-can : (g′ : Arguments) (e : ℕ) → g′ ≡ g → e ≡ d + u → CanCopy (Replacing g′) rs at to e
       child-can g′ e x y = rw (x, y) (turn-can (Replacing g) (g .count) _ (replacing-sound g) rs₁ src dst d k rs at to j n (p .copying) (p .count) l u b)
 
