@@ -7,7 +7,6 @@ use mathlib.Core.Path.{_≡_, refl, sym, ap, _∙_, subst}
 use lib.ListN.{length}
 use mir.Syntax.{w16, w64}
 use mir.Val.{Fits}
-use Rattle.rules.specs.Kinds.{childCount}
 use Rattle.rules.specs.Terms.{Term, size}
 use Rattle.rules.specs.Typing.{firstLevel}
 use Rattle.rules.specs.Format.{Record}
