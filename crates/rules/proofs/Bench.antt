@@ -66,9 +66,15 @@ pub short-traces : map (λ b. map numbersOf (course table (b .fuel) (b .first) .
 unfolding changed raised replaced wrapped summed gaveWay size plain value matched waits next course
 short-traces = refl
 
-k9 : run table 1000 (fixed nat identity) ≡ record { ending = spent; steps = 1000; last = fixed nat identity }
-unfolding changed raised replaced wrapped summed gaveWay size plain value matched waits next course
-k9 = refl
+-- K9 is its own next term, so that any fuel is spent.
+fixed-next : next table 0 (fixed nat identity) ≡ some (record { event = atRoot onFix 1; term = fixed nat identity })
+unfolding next waits value replaced summed gaveWay changed raised size
+fixed-next = refl
+
+k9 : (fuel : ℕ) → run table fuel (fixed nat identity) ≡ record { ending = spent; steps = fuel; last = fixed nat identity }
+unfolding course value size
+k9 zero = refl
+k9 (suc fuel) = ap outcomeOf (course-more table fuel (fixed nat identity) (atRoot onFix 1) (fixed nat identity) refl fixed-next refl) ∙ ap oneMore (k9 fuel)
 
 -- K10 and K11
 grown-waits : (n : ℕ) → value (grown n) ≡ false
@@ -102,19 +108,21 @@ grown-step : (k n : ℕ) → 6 + 3 * suc n ≤ mostRecords → run table (suc k)
 grown-step k n h = ap outcomeOf (course-more table k (grown n) (unrolls n) (grown (suc n)) (grown-waits n) (grown-next n) (grown-fits (suc n) h))
 
 abbrev manyMore : ℕ → Outcome → Outcome
-manyMore zero o = o
-manyMore (suc k) o = oneMore (manyMore k o)
+manyMore k o = record { ending = o .ending; steps = k + o .steps; last = o .last }
+
+one-more : (k : ℕ) (o : Outcome) → oneMore (manyMore k o) ≡ manyMore (suc k) o
+one-more k o = λ i. let e : suc (k + o .steps) ≡ suc k + o .steps = omega arith in record { ending = o .ending; steps = e i; last = o .last }
 
 -- k steps of fuel k + j
 grown-runs : (k j n : ℕ) → 6 + 3 * (n + k) ≤ mostRecords → run table (k + j) (grown n) ≡ manyMore k (run table j (grown (n + k)))
 grown-runs zero j n h =
     let p : 0 + j ≡ j = omega arith in
     let q : n + 0 ≡ n = omega arith in
-    rw (p, q)
+    rw (p, q) (λ i. record { ending = run table j (grown n) .ending; steps = (let e : run table j (grown n) .steps ≡ 0 + run table j (grown n) .steps = omega arith in e i); last = run table j (grown n) .last })
 grown-runs (suc k) j n h =
     let p : suc k + j ≡ suc (k + j) = omega arith in
     let q : n + suc k ≡ suc n + k = omega arith in
-    rw (p, q) (grown-step (k + j) n (omega arith) ∙ ap oneMore (grown-runs k j (suc n) (omega arith)))
+    rw (p, q) (grown-step (k + j) n (omega arith) ∙ ap oneMore (grown-runs k j (suc n) (omega arith)) ∙ one-more k (run table j (grown (suc n + k))))
 
 k10 : run table 680 grow ≡ record { ending = spent; steps = 680; last = grown 680 }
 unfolding course value
@@ -131,7 +139,7 @@ k10-records = grown-size 680
 long-computed : All Computed long
 unfolding size listed tableOf recordsOf laid joined programBytes unless _then_ lowest total walked refusalOf refusal checkAnswer kindOf numbered treeOf
 long-computed =
-    record { passed = passed-by refl refl refl; comes-to = k9; counted = refl }
+    record { passed = passed-by refl refl refl; comes-to = k9 1000; counted = refl }
     & record { passed = passed-by refl refl refl; comes-to = k10; counted = k10-records }
     & record { passed = passed-by refl refl refl; comes-to = k11; counted = k10-records }
     & tt

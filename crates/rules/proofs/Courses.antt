@@ -1,7 +1,7 @@
 -- The course of a run, by how it goes on from a term.
 use Prim.Native.Nat.{ℕ, zero, suc}
 use mathlib.Core.Bool.{true, false}
-use mathlib.Core.Option.{none, some}
+use mathlib.Core.Option.{some}
 use mathlib.Core.Path.{_≡_}
 use lib.Dec.{ltb}
 use Rattle.rules.specs.Terms.{Term, size}
@@ -21,10 +21,6 @@ module _ (types : Table) where
   pub course-spent : (t : Term) → value t ≡ false → course types 0 t ≡ ended spent t
   unfolding course
   course-spent t v = rw (v, course)
-
-  pub course-stuck : (fuel : ℕ) (t : Term) → value t ≡ false → next types 0 t ≡ none → course types (suc fuel) t ≡ ended spent t
-  unfolding course
-  course-stuck fuel t v n = rw (v, course) (rw n)
 
   module _ (fuel : ℕ) (t : Term) (e : Event) (u : Term) (v : value t ≡ false) (n : next types 0 t ≡ some (record { event = e; term = u })) where
     pub course-full : ltb mostRecords (size u) ≡ true → course types (suc fuel) t ≡ ended full t

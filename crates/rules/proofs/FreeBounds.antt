@@ -1,6 +1,7 @@
 -- The free bound of a tree: a change that moves free indices only leaves a tree with a low bound as it is, and the bound of a typed tree is low.
-use Prim.Native.Nat.{ℕ, _+_, _≤_, _<_}
+use Prim.Native.Nat.{ℕ, _+_, _-_, _≤_, _<_, max}
 use native.Mathlib.Omega.{arith}
+use native.Mathlib.Nat.{zero-add}
 use mathlib.Core.List.{List}
 use mathlib.Core.Path.{_≡_, refl, ap, ap₂}
 use lib.ListN.{length}
@@ -9,8 +10,7 @@ use Rattle.rules.specs.Kinds.{number, variable, Ternary, matchVariable, 
 use Rattle.rules.specs.Terms.{Fields, Term, leaf, unary, binary, ternary}
 use Rattle.rules.specs.Binders.{binds₁, binds₃}
 use Rattle.rules.specs.FreeBounds.{ownBound, freeBound}
-use Rattle.rules.specs.Indices.{Change, withIndex, onFields, changed, raising, raised, replacing, replaced, wrapping}
-use Rattle.rules.specs.Shifts.{shifting}
+use Rattle.rules.specs.Indices.{Change, withIndex, onFields, changed, raising, replacing, replaced, wrapping}
 use Rattle.rules.specs.Types.{Table}
 use Rattle.rules.specs.Typing.{Env, Typed}
 use Rattle.rules.proofs.Written.{under-length}
@@ -25,17 +25,46 @@ fields-low : (c : Change) → KeepsLow c → (d : ℕ) (k : Ternary) (f : Fields
 fields-low c h d (match matchVariable) f b = ap (withIndex f) (h .onIndex d (f .a) (omega arith))
 fields-low c h d (match (matchShape k)) f b = refl
 
+-- The bound of a record is at most d where each of its parts is, and no part is beyond it.
+module _ (o x m y n z d : ℕ) where
+  root-most : o ≤ d → x ≤ m + d → y ≤ n + d → z ≤ d → max o (max (x - m) (max (y - n) z)) ≤ d
+  root-most p q r s = omega arith
+
+  module _ (b : max o (max (x - m) (max (y - n) z)) ≤ d) where
+    own-most : o ≤ d
+    own-most = omega arith
+
+    first-most : x ≤ m + d
+    first-most = omega arith
+
+    second-most : y ≤ n + d
+    second-most = omega arith
+
+    third-most : z ≤ d
+    third-most = omega arith
+
+own-below : (i x m y n z d : ℕ) → max (i + 1) (max (x - m) (max (y - n) z)) ≤ d → i < d
+own-below i x m y n z d b = omega arith
+
 -- Such a change leaves a tree as it is whose bound is at most d.
 pub changed-low : (c : Change) → KeepsLow c → (d : ℕ) (t : Term) → freeBound t ≤ d → changed c d t ≡ t
 unfolding changed freeBound
 changed-low c h d (leaf number f) b = refl
-changed-low c h d (leaf variable f) b = h .onVariable d f (omega arith)
-changed-low c h d (unary k f t) b = ap (unary k f) (changed-low c h (length (binds₁ k f) + d) t (omega arith))
-changed-low c h d (binary k f t u) b = ap₂ (binary k f) (changed-low c h d t (omega arith)) (changed-low c h d u (omega arith))
+changed-low c h d (leaf variable f) b = h .onVariable d f (own-below (f .a) 0 0 0 0 0 d b)
+changed-low c h d (unary k f t) b = ap (unary k f) (changed-low c h (length (binds₁ k f) + d) t (first-most 0 (freeBound t) (length (binds₁ k f)) 0 0 0 d b))
+changed-low c h d (binary k f t u) b =
+    ap₂ (binary k f) (changed-low c h d t (rw zero-add at (first-most 0 (freeBound t) 0 (freeBound u) 0 0 d b))) (changed-low c h d u (rw zero-add at (second-most 0 (freeBound t) 0 (freeBound u) 0 0 d b)))
 changed-low c h d (ternary k f t s e) b =
-    rw (fields-low c h d k f (omega arith), changed-low c h d t (omega arith), changed-low c h (length (binds₃ k f) + d) s (omega arith), changed-low c h d e (omega arith))
+    let o = ownBound (ternary₃ k) f in
+    let n = length (binds₃ k f) in
+    rw (
+      fields-low c h d k f (own-most o (freeBound t) 0 (freeBound s) n (freeBound e) d b),
+      changed-low c h d t (rw zero-add at (first-most o (freeBound t) 0 (freeBound s) n (freeBound e) d b)),
+      changed-low c h (n + d) s (second-most o (freeBound t) 0 (freeBound s) n (freeBound e) d b),
+      changed-low c h d e (third-most o (freeBound t) 0 (freeBound s) n (freeBound e) d b),
+    )
 
--- Raising, replacing, wrapping and shifting are such changes.
+-- Raising, replacing and wrapping are such changes.
 pub raising-low : (n : ℕ) → KeepsLow (raising n)
 raising-low n = record { onVariable = λ d f l. rw (lt-ltb (f .a) d l); onIndex = λ d i l. raised-bound n d i l }
 
@@ -45,14 +74,7 @@ replacing-low ts = record { onVariable = λ d f l. replaced-bound ts d f l; onIn
 pub wrapping-low : (code : ℕ) → KeepsLow (wrapping code)
 wrapping-low code = record { onVariable = λ d f l. rw (ne-eqb (f .a) d (λ e. omega arith)); onIndex = λ d i l. refl }
 
-pub shifting-low : (down up : ℕ) → KeepsLow (shifting down up)
-shifting-low down up = record { onVariable = λ d f l. rw (lt-ltb (f .a) d l); onIndex = λ d i l. rw (lt-ltb i d l) }
-
 -- A closed tree is left as it is.
-pub raised-closed : (n : ℕ) (t : Term) → freeBound t ≡ 0 → raised n t ≡ t
-unfolding raised
-raised-closed n t b = changed-low (raising n) (raising-low n) 0 t (omega arith)
-
 pub replaced-closed : (ts : List Term) (t : Term) → freeBound t ≡ 0 → replaced ts t ≡ t
 unfolding replaced
 replaced-closed ts t b = changed-low (replacing ts) (replacing-low ts) 0 t (omega arith)
@@ -62,7 +84,12 @@ pub typed-bound : (types : Table) (Γ : Env) (l : ℕ) (t : Term) → Typed type
 unfolding Typed freeBound
 typed-bound types Γ l (leaf number f) h = omega arith
 typed-bound types Γ l (leaf variable f) (_, (i, _), _, _) = omega arith
-typed-bound types Γ l (unary k f t) (_, h) = omega (arith, typed-bound types _ _ t h, under-length l (binds₁ k f) Γ)
-typed-bound types Γ l (binary k f t u) (_, h, j) = omega (arith, typed-bound types _ _ t h, typed-bound types _ _ u j)
-typed-bound types Γ l (ternary (match matchVariable) f t s e) ((_, (i, _), _, _), h, j, m) = omega (arith, typed-bound types _ _ t h, typed-bound types _ _ s j, typed-bound types _ _ e m)
-typed-bound types Γ l (ternary (match (matchShape k)) f t s e) (_, h, j, m) = omega (arith, typed-bound types _ _ t h, typed-bound types _ _ s j, typed-bound types _ _ e m, under-length 0 (binds₃ (match (matchShape k)) f) Γ)
+typed-bound types Γ l (unary k f t) (_, h) =
+    root-most 0 (freeBound t) (length (binds₁ k f)) 0 0 0 (length Γ) (omega arith) (rw (← under-length l (binds₁ k f) Γ) (typed-bound types _ _ t h)) (omega arith) (omega arith)
+typed-bound types Γ l (binary k f t u) (_, h, j) =
+    root-most 0 (freeBound t) 0 (freeBound u) 0 0 (length Γ) (omega arith) (rw zero-add (typed-bound types _ _ t h)) (rw zero-add (typed-bound types _ _ u j)) (omega arith)
+typed-bound types Γ l (ternary (match matchVariable) f t s e) ((_, (i, _), _, _), h, j, m) =
+    root-most (f .a + 1) (freeBound t) 0 (freeBound s) 0 (freeBound e) (length Γ) (omega arith) (rw zero-add (typed-bound types _ _ t h)) (rw zero-add (typed-bound types _ _ s j)) (typed-bound types _ _ e m)
+typed-bound types Γ l (ternary (match (matchShape k)) f t s e) (_, h, j, m) =
+    let n = binds₃ (match (matchShape k)) f in
+    root-most 0 (freeBound t) 0 (freeBound s) (length n) (freeBound e) (length Γ) (omega arith) (rw zero-add (typed-bound types _ _ t h)) (rw (← under-length 0 n Γ) (typed-bound types _ _ s j)) (typed-bound types _ _ e m)
