@@ -1,5 +1,5 @@
 -- Copies by one skeleton, whatever the change: a block, a variable that gives way, or a root with its children one after another and its measures
--- last. `copying` for search.
+-- last.
 use Prim.Native.Nat.{ℕ, _+_, _-_, _/_, _^_, _≤_, _<_}
 use native.Mathlib.Omega.{arith}
 use native.Mathlib.Numerals.{add-one}
@@ -362,5 +362,3 @@ pub copy-falls : (M : Way) (m : ℕ) (moved : ℕ → ℕ → ℕ) → Sound M m
 copy-falls M m moved S s₁ src dst d k s at to j n p o l s₀ y q g =
     let h = p .all (p .tree) (p .of) in
     omega (arith, h .row .begun, h .stays .same, records-length s₁, records-length s₀, at-first (recordsIn s) at _ (turn-tree M m moved S (recordsIn s₁) src dst d k (recordsIn s) at to j n p o l .there))
-
-pub ruleset copying = (copy-in, copy-to, block-can, block-does, copy-starts, turn-tree, turn-count, turn-deep, turn-can, turn-next, copy-rooted, copy-ends, copy-from-fits, copy-to-fits)

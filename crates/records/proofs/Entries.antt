@@ -2,16 +2,15 @@
 use Prim.Native.Nat.{ℕ, _+_, _*_, _/_, _≤_, _<_}
 use mathlib.Core.Path.{_≡_}
 use mathlib.Core.List.{List}
-use lib.ListN.{length, getD, take, drop, set}
+use lib.ListN.{length, getD, drop}
 use Rattle.rules.specs.Lists.{All, joined}
-use Rattle.rules.specs.Types.{Entry, noEntry}
+use Rattle.rules.specs.Types.{noEntry}
 use Rattle.rules.specs.Format.{entryOf, entryBytes}
 use Rattle.rules.proofs.Bytes.{EntryFits}
-use Rattle.records.specs.Overwritten.{overwritten}
 use Rattle.records.specs.View.{entriesIn}
 use Rattle.records.proofs.Form.{AreBytes}
 use Rattle.records.proofs.Fields.{entry-form}
-use Rattle.records.proofs.Views.{viewed-length, viewed-room, viewed-within, viewed-read, viewed-fit, viewed-fits-at, viewed-write, viewed-joined, viewed-joined-front}
+use Rattle.records.proofs.Views.{viewed-length, viewed-room, viewed-read, viewed-fit, viewed-joined}
 
 -- How many there are, and which places have one.
 pub entries-length : (s : List ℕ) → length (entriesIn s) ≡ length s / 6
@@ -21,10 +20,6 @@ entries-length = viewed-length entry-form
 pub entries-room : (s : List ℕ) (i : ℕ) → i < length (entriesIn s) → 6 * i + 6 ≤ length s
 unfolding entriesIn
 entries-room = viewed-room entry-form
-
-pub entries-within : (s : List ℕ) (i : ℕ) → 6 * i + 6 ≤ length s → i < length (entriesIn s)
-unfolding entriesIn
-entries-within = viewed-within entry-form
 
 -- What is read.
 pub entries-read : (s : List ℕ) (i : ℕ) → i < length (entriesIn s) → getD (entriesIn s) i noEntry ≡ entryOf (drop (6 * i) s)
@@ -36,20 +31,7 @@ pub entries-fit : (s : List ℕ) → AreBytes s → All EntryFits (entriesIn s)
 unfolding entriesIn
 entries-fit = viewed-fit entry-form
 
-pub entry-fits-at : (s : List ℕ) (i : ℕ) → AreBytes s → i < length (entriesIn s) → EntryFits (getD (entriesIn s) i noEntry)
-unfolding entriesIn
-entry-fits-at s i b h = viewed-fits-at entry-form s i noEntry b h
-
--- What a write does.
-pub entries-write : (s : List ℕ) (i : ℕ) (x : Entry) → i < length (entriesIn s) → EntryFits x → entriesIn (overwritten s (6 * i) (entryBytes x)) ≡ set (entriesIn s) i x
-unfolding entriesIn
-entries-write = viewed-write entry-form
-
--- The bytes are the entries, written one after another: all of them, or n in front.
+-- The bytes are the entries, written one after another.
 pub entries-joined : (s : List ℕ) (n : ℕ) → AreBytes s → length s ≡ 6 * n → joined entryBytes (entriesIn s) ≡ s
 unfolding entriesIn
 entries-joined = viewed-joined entry-form
-
-pub entries-joined-front : (s : List ℕ) (n : ℕ) → AreBytes s → 6 * n ≤ length s → take (6 * n) s ≡ joined entryBytes (take n (entriesIn s))
-unfolding entriesIn
-entries-joined-front = viewed-joined-front entry-form

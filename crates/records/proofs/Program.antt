@@ -4,32 +4,26 @@ use Prim.Native.Nat.{ℕ, _+_, _*_, _-_}
 use native.Mathlib.Omega.{arith}
 use mathlib.Core.Path.{_≡_, sym, ap, ap₂, _∙_}
 use mathlib.Core.List.{List}
-use lib.ListN.{length, take, drop, length-drop}
-use lib.Seq.{take-all}
+use lib.ListN.{length, take, drop}
 use Rattle.rules.specs.Format.{typeCount, recordCount, tableOf, recordsOf}
 use Rattle.records.specs.View.{entriesIn, recordsIn}
 use Rattle.records.proofs.Fields.{entry-form, record-form}
 use Rattle.records.proofs.Views.{viewed-part}
 
 module _ (p : List ℕ) (whole : length p ≡ 4 + 6 * typeCount p + 16 * recordCount p) where
-  pub program-table : tableOf p ≡ entriesIn (take (6 * typeCount p) (drop 4 p))
+  table-part : tableOf p ≡ entriesIn (take (6 * typeCount p) (drop 4 p))
   unfolding tableOf entriesIn
-  program-table = viewed-part entry-form p 4 (typeCount p) (omega arith)
+  table-part = viewed-part entry-form p 4 (typeCount p) (omega arith)
 
   records-part : recordsOf p ≡ recordsIn (take (16 * recordCount p) (drop (4 + 6 * typeCount p) p))
   unfolding recordsOf recordsIn
   records-part = viewed-part record-form p (4 + 6 * typeCount p) (recordCount p) (omega arith)
 
-  pub program-records : recordsOf p ≡ recordsIn (drop (4 + 6 * typeCount p) p)
-  program-records =
-      let rest = drop (4 + 6 * typeCount p) p in
-      records-part ∙ ap recordsIn (take-all (16 * recordCount p) rest (omega (arith, length-drop (4 + 6 * typeCount p) p)))
-
   -- The same of `&p[4..e]` and `&p[e..]`, with e the end of the table.
   pub program-table-slice : (e : ℕ) → e ≡ 4 + 6 * typeCount p → tableOf p ≡ entriesIn (take (e - 4) (drop 4 p))
   program-table-slice e h =
       let n : 6 * typeCount p ≡ e - 4 = omega arith in
-      program-table ∙ ap (λ m. entriesIn (take m (drop 4 p))) n
+      table-part ∙ ap (λ m. entriesIn (take m (drop 4 p))) n
 
   pub program-records-slice : (e : ℕ) → e ≡ 4 + 6 * typeCount p → recordsOf p ≡ recordsIn (take (length p - e) (drop e p))
   program-records-slice e h =

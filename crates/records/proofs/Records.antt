@@ -10,7 +10,7 @@ use Rattle.records.specs.Overwritten.{overwritten}
 use Rattle.records.specs.View.{recordsIn}
 use Rattle.records.proofs.Form.{AreBytes}
 use Rattle.records.proofs.Fields.{record-form}
-use Rattle.records.proofs.Views.{viewed-length, viewed-room, viewed-within, viewed-read, viewed-fit, viewed-fits-at, viewed-write, viewed-joined, viewed-joined-front}
+use Rattle.records.proofs.Views.{viewed-length, viewed-room, viewed-read, viewed-fit, viewed-write, viewed-joined-front}
 
 -- How many there are, and which places have one.
 pub records-length : (s : List ℕ) → length (recordsIn s) ≡ length s / 16
@@ -20,10 +20,6 @@ records-length = viewed-length record-form
 pub records-room : (s : List ℕ) (i : ℕ) → i < length (recordsIn s) → 16 * i + 16 ≤ length s
 unfolding recordsIn
 records-room = viewed-room record-form
-
-pub records-within : (s : List ℕ) (i : ℕ) → 16 * i + 16 ≤ length s → i < length (recordsIn s)
-unfolding recordsIn
-records-within = viewed-within record-form
 
 -- What is read.
 pub records-read : (s : List ℕ) (i : ℕ) → i < length (recordsIn s) → getD (recordsIn s) i noRecord ≡ recordOf (drop (16 * i) s)
@@ -35,20 +31,12 @@ pub records-fit : (s : List ℕ) → AreBytes s → All RecordFits (recordsIn s)
 unfolding recordsIn
 records-fit = viewed-fit record-form
 
-pub record-fits-at : (s : List ℕ) (i : ℕ) → AreBytes s → i < length (recordsIn s) → RecordFits (getD (recordsIn s) i noRecord)
-unfolding recordsIn
-record-fits-at s i b h = viewed-fits-at record-form s i noRecord b h
-
 -- What a write does.
 pub records-write : (s : List ℕ) (i : ℕ) (x : Record) → i < length (recordsIn s) → RecordFits x → recordsIn (overwritten s (16 * i) (recordBytes x)) ≡ set (recordsIn s) i x
 unfolding recordsIn
 records-write = viewed-write record-form
 
--- The bytes are the records, written one after another: all of them, or n in front.
-pub records-joined : (s : List ℕ) (n : ℕ) → AreBytes s → length s ≡ 16 * n → joined recordBytes (recordsIn s) ≡ s
-unfolding recordsIn
-records-joined = viewed-joined record-form
-
+-- The first bytes are the first records, written one after another.
 pub records-joined-front : (s : List ℕ) (n : ℕ) → AreBytes s → 16 * n ≤ length s → take (16 * n) s ≡ joined recordBytes (take n (recordsIn s))
 unfolding recordsIn
 records-joined-front = viewed-joined-front record-form

@@ -26,9 +26,6 @@ module _ {A : Type 0} {of : List ℕ → A} {to : A → List ℕ} {width : ℕ} 
   pub viewed-room : (s : List ℕ) (i : ℕ) → i < length (viewed of width s) → width * i + width ≤ length s
   viewed-room s i h = omega (arith, le-div-iff-mul-le (form .wide) .0 (rw viewed-length at h))
 
-  pub viewed-within : (s : List ℕ) (i : ℕ) → width * i + width ≤ length s → i < length (viewed of width s)
-  viewed-within s i h = rw viewed-length (le-div-iff-mul-le (form .wide) .1 (omega arith))
-
   -- What is read.
   pub viewed-read : (s : List ℕ) (i : ℕ) (d : A) → i < length (viewed of width s) → getD (viewed of width s) i d ≡ of (drop (width * i) s)
   unfolding viewed
@@ -38,9 +35,6 @@ module _ {A : Type 0} {of : List ℕ → A} {to : A → List ℕ} {width : ℕ} 
   pub viewed-fit : (s : List ℕ) → AreBytes s → All Fits (viewed of width s)
   unfolding viewed
   viewed-fit s b = all-listed _ Fits (λ i. form .fits (drop (width * i) s) (bytes-drop s (width * i) b)) 0 (length s / width)
-
-  pub viewed-fits-at : (s : List ℕ) (i : ℕ) (d : A) → AreBytes s → i < length (viewed of width s) → Fits (getD (viewed of width s) i d)
-  viewed-fits-at s i d b h = rw (viewed-read s i d h) (form .fits (drop (width * i) s) (bytes-drop s (width * i) b))
 
   -- A thing within a front of the bytes is read there as in the whole.
   read-in-front : (s : List ℕ) (at n : ℕ) → at + width ≤ n → of (drop at (take n s)) ≡ of (drop at s)
