@@ -15,13 +15,14 @@ use Rattle.rules.specs.Refusals.{Refusal, outputShort, workShort, unless, _then
 use Rattle.rules.specs.Check.{refusal}
 use Rattle.rules.specs.Run.{refused, outputNeeded, workNeeded, runRefusal, runAnswer, runOutput}
 use Rattle.rules.proofs.Tests.{never}
+use Rattle.rules.proofs.Meaning.{exactly}
 use Rattle.rules.proofs.Whole.{demand-3}
 use Rattle.refusals.specs.declared.Verdict.{Verdict}
 use Rattle.refusals.specs.Tells.{refusalBy, shown, Tells}
 use Rattle.refusals.proofs.Laws.{no-number}
+use Rattle.running.specs.Programs.{CanRunProgram}
 use Rattle.engine.specs.declared.RunAnswer.{RunAnswer}
-use Rattle.engine.specs.Answers.{runMeant, Ran}
-use Rattle.engine.specs.Accepting.{CanAccept, Accepted}
+use Rattle.engine.specs.Answers.{runMeant, Accepted, Ran}
 
 -- A verdict with a number is that of a refusal.
 some-number : (f : Verdict) (o : Option Refusal) → Tells f o → (f .number ≡ 0 → ⊥) → o ≡ some (refusalBy (f .number) (f .place))
@@ -68,13 +69,16 @@ module _ (p : List ℕ) (fuel : ℕ) (out work : List ℕ) (r : RunAnswer) where
       program-refused n a = ran-refused (f .number) (f .place) (buffers-long p (length out) (length work) room long ∙ some-number f (refusal firstEdition p) t n) a
 
       module _ (z : f .number ≡ 0) where
-        pub can-accept : CanAccept p out (take workNeeded work)
-        can-accept = record { passing = record { is = no-number f (refusal firstEdition p) t z }; room = room; long = length-take-le workNeeded work long }
+        none-told : refusal firstEdition p ≡ none
+        none-told = no-number f (refusal firstEdition p) t z
+
+        pub can-accept : CanRunProgram firstEdition p out (take workNeeded work)
+        can-accept = record { known = omega arith; meets = exactly firstEdition p .0 none-told; room = room; long = length-take-le workNeeded work long }
 
         pub run-accepted : (out′ part : List ℕ) → Accepted p fuel out out′ r → length part ≡ length (take workNeeded work) → Ran p fuel out work r out′ (part ++ drop workNeeded work)
         unfolding runAnswer runOutput
         run-accepted out′ part a e =
-            let n = buffers-long p (length out) (length work) room long ∙ no-number f (refusal firstEdition p) t z in
+            let n = buffers-long p (length out) (length work) room long ∙ none-told in
             let l : length part ≡ workNeeded = e ∙ length-take-le workNeeded work long in
             record {
               answer = rw (n, runAnswer) (a .answer);

@@ -20,7 +20,6 @@ use Rattle.records.proofs.Program.{program-records-slice}
 use Rattle.refusals.specs.declared.Verdict.{Verdict}
 use Rattle.refusals.specs.Tells.{shown, Tells}
 use Rattle.refusals.proofs.Laws.{no-number}
-use Rattle.engine.specs.Answers.{Passing}
 
 module _ (p : List ℕ) (e : Edition) (first : editionMeant e ≡ firstEdition) (f : Verdict) (told : Tells f (refusal (editionMeant e) p)) where
   t : Tells f (refusal firstEdition p)
@@ -35,13 +34,10 @@ module _ (p : List ℕ) (e : Edition) (first : editionMeant e ≡ firstEdition) 
       go none e = absurd (n (ap (λ x. x .number) e))
       go (some r) e = ap (λ x. failing (x .number) (x .place)) e
 
-  pub check-passing : f .number ≡ 0 → Passing p
-  check-passing z = record { is = no-number f (refusal firstEdition p) t z }
+  pub check-meets : f .number ≡ 0 → Meets firstEdition p
+  check-meets z = exactly firstEdition p .0 (no-number f (refusal firstEdition p) t z)
 
-module _ (p : List ℕ) (h : Passing p) where
-  meets : Meets firstEdition p
-  meets = exactly firstEdition p .0 (h .is)
-
+module _ (p : List ℕ) (meets : Meets firstEdition p) where
   pub passing-types : 0 + 1 < length p
   passing-types = omega (arith, meets .exact)
 
@@ -62,6 +58,6 @@ module _ (p : List ℕ) (h : Passing p) where
     root-told r e = ap (λ x. x .fields .type) e ∙ ap (λ rs. getD rs 0 noRecord .fields .type) (sym records-there)
 
   pub check-passed : (root R : ℕ) → root ≡ typeNo (recordsOf p) 1 → R ≡ recordCount p → passing root R ≡ checkAnswer firstEdition p
-  check-passed root R e eR = ap₂ passing e eR ∙ sym (answered firstEdition p (h .is))
+  check-passed root R e eR = ap₂ passing e eR ∙ sym (answered firstEdition p (exactly firstEdition p .1 meets))
 
-pub ruleset checking = (check-refused, check-passing, passing-types, passing-count, passing-end, passing-root, root-told, check-passed)
+pub ruleset checking = (check-refused, check-meets, passing-types, passing-count, passing-end, passing-root, root-told, check-passed)

@@ -5,9 +5,10 @@ use mathlib.Core.Option.{none, some}
 use mathlib.Core.Path.{_≡_}
 use lib.ListN.{length, drop}
 use Rattle.rules.specs.Editions.{firstEdition}
+use Rattle.rules.specs.Format.{tableOf}
 use Rattle.rules.specs.Refusals.{Refusal}
-use Rattle.rules.specs.Check.{CheckAnswer as MeantCheckAnswer, refusal}
-use Rattle.rules.specs.Run.{RunAnswer as MeantRunAnswer, workNeeded, runRefusal, runAnswer, runOutput}
+use Rattle.rules.specs.Check.{CheckAnswer as MeantCheckAnswer}
+use Rattle.rules.specs.Run.{RunAnswer as MeantRunAnswer, programCourse, output, writtenOver, workNeeded, accepted, runRefusal, runAnswer, runOutput}
 use Rattle.rules.specs.WholeRun.{Demand3}
 use Rattle.engine.specs.declared.CheckAnswer.{CheckAnswer}
 use Rattle.engine.specs.declared.RunAnswer.{RunAnswer}
@@ -18,9 +19,10 @@ checkMeant r = record { number = r .number; place = r .place; rootType = r .«ro
 abbrev pub runMeant : RunAnswer → MeantRunAnswer
 runMeant r = record { number = r .number; place = r .place; ending = r .ending; steps = r .steps; rootType = r .«root_type»; written = r .written }
 
--- The program, of the first edition, is refused by nothing.
-pub record Passing (program : List ℕ) : Type 0 where
-  pub is : refusal firstEdition program ≡ none
+-- What an accepted run ensures: the answer, and every byte of the output buffer.
+pub record Accepted (program : List ℕ) (fuel : ℕ) (out out′ : List ℕ) (r : RunAnswer) : Type 0 where
+  pub answer : runMeant r ≡ accepted (tableOf program) (programCourse program fuel)
+  pub output : out′ ≡ writtenOver out (output (tableOf program) (programCourse program fuel .last))
 
 -- What a run of the first edition ensures, of the program, the fuel and the buffers before the call, its answer, and the buffers after it. The answer and every byte
 -- of the output buffer are the definitions'. Of the work buffer, the first 65,536 bytes after an accepted run are free, which is the sole freedom;

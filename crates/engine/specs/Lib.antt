@@ -1,3 +1,2 @@
--- What the answers of the public calls mean, and what their parts ask and ensure.
+-- What the answers of the public calls mean.
 pub mod Answers
-pub mod Accepting

@@ -3,10 +3,10 @@ ghost use mathlib.Core.Path.{_≡_};
 ghost use Rattle.rules.specs.Editions.{firstEdition};
 ghost use Rattle.rules.specs.Format.{recordsOf};
 ghost use Rattle.rules.specs.Check.{typeNo, checkAnswer};
+ghost use Rattle.rules.specs.Meets.{Meets};
 ghost use Rattle.rules.specs.Run.{refused};
-ghost use Rattle.engine.specs.Answers.{checkMeant, runMeant, Passing, Ran};
-ghost use Rattle.engine.specs.Accepting.{CanAccept, Accepted};
-use steps::State;
+ghost use Rattle.running.specs.Programs.{CanRunProgram};
+ghost use Rattle.engine.specs.Answers.{checkMeant, runMeant, Accepted, Ran};
 
 // The bytes that a run needs of its output and its work buffer.
 pub const OUTPUT: usize = 34308;
@@ -41,7 +41,7 @@ pub fn check(program: &[u8]) -> CheckAnswer
 
 // The root's type of a program that is passed.
 fn root_type(program: &[u8]) -> u16
-    requires { ⌜ Passing (now program) ⌝ }
+    requires { ⌜ Meets firstEdition (now program) ⌝ }
     ensures { λ r. ⌜ r ≡ typeNo (recordsOf (now (program .entry))) 1 ⌝ }
 {
     let types = records::get16(program, 0);
@@ -52,7 +52,7 @@ fn root_type(program: &[u8]) -> u16
 
 // The answer for a program that is passed.
 fn passed(program: &[u8]) -> CheckAnswer
-    requires { ⌜ Passing (now program) ⌝ }
+    requires { ⌜ Meets firstEdition (now program) ⌝ }
     ensures { λ a. ⌜ checkMeant a ≡ checkAnswer firstEdition (now (program .entry)) ⌝ }
 {
     let root = root_type(program);
@@ -91,17 +91,13 @@ fn refusing(number: u16, place: u16) -> RunAnswer
     }
 }
 
-// The run of a program that is passed.
+// The answer of an accepted run, which is made.
 fn accepted(program: &[u8], fuel: u32, output: &mut [u8], work: &mut [u8]) -> RunAnswer
-    requires { ⌜ CanAccept (now program) (now output) (now work) ⌝ }
+    requires { ⌜ CanRunProgram firstEdition (now program) (now output) (now work) ⌝ }
     ensures { λ r. ⌜ Accepted (now (program .entry)) fuel (now (output .entry)) (now (output .exit)) r ⌝ }
 {
     let root = root_type(program);
-    let types = records::get16(program, 0);
-    let count = records::get16(program, 2);
-    let end = 4 + 6 * (types as usize);
-    let start = State::start(&program[end..], count, work);
-    let done = running::finish(start, &program[4..end], types, fuel, work, output);
+    let done = running::run_program(program, fuel, output, work);
     RunAnswer {
         number: 0,
         place: 0,

@@ -30,10 +30,10 @@ module _ (table : List ℕ) (types : ℕ) (rs : List Record) (s : State) (out : 
     pub finish-done : Finishes table fuel rs s out out′ (record { ending = e; steps = q .steps; written = w })
     finish-done = record { does = λ first k. go first (co .does (entriesIn table) fuel first rs₁ (ro .does first k)) }
       where
-        go : (first : Term) → Concluded (entriesIn table) fuel first rs₁ q e → Finished table out out′ (run (entriesIn table) fuel first) (record { ending = e; steps = q .steps; written = w })
+        go : (first : Term) → Concluded (entriesIn table) fuel first rs₁ q e → Finished (entriesIn table) out out′ (run (entriesIn table) fuel first) (record { ending = e; steps = q .steps; written = w })
         go first c =
             let b = wo .does (entriesIn table) (c .last) (c .runs) in
-            subst (λ o. Finished table out out′ o (record { ending = e; steps = q .steps; written = w })) (sym (c .outcome))
+            subst (λ o. Finished (entriesIn table) out out′ o (record { ending = e; steps = q .steps; written = w })) (sym (c .outcome))
             (record { ending = c .number; steps = refl; written = b .end; bytes = b .bytes })
 
 pub ruleset finishing = (finish-writes, finish-done)

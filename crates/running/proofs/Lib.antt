@@ -2,3 +2,4 @@
 pub mod Stepping
 pub mod Looping
 pub mod Finishing
+pub mod Programs

@@ -4,6 +4,7 @@ use mathlib.Core.List.{List}
 use mathlib.Core.Path.{_≡_}
 use lib.ListN.{length}
 use Rattle.rules.specs.Terms.{Term}
+use Rattle.rules.specs.Types.{Table}
 use Rattle.rules.specs.Format.{Record}
 use Rattle.rules.specs.Run.{Outcome, endingNumber, run, output, writtenOver, outputNeeded}
 use Rattle.records.specs.View.{entriesIn}
@@ -21,11 +22,11 @@ pub record CanFinish (table : List ℕ) (types : ℕ) (rs : List Record) (s : St
   pub room : outputNeeded ≤ length out
 
 -- What is told and written is this outcome's.
-pub record Finished (table out out′ : List ℕ) (o : Outcome) (r : Completion) : Type 0 where
+pub record Finished (types : Table) (out out′ : List ℕ) (o : Outcome) (r : Completion) : Type 0 where
   pub ending : r .ending ≡ endingNumber (o .ending)
   pub steps : r .steps ≡ o .steps
-  pub written : r .written ≡ length (output (entriesIn table) (o .last))
-  pub bytes : out′ ≡ writtenOver out (output (entriesIn table) (o .last))
+  pub written : r .written ≡ length (output types (o .last))
+  pub bytes : out′ ≡ writtenOver out (output types (o .last))
 
 pub record Finishes (table : List ℕ) (fuel : ℕ) (rs : List Record) (s : State) (out out′ : List ℕ) (r : Completion) : Type 0 where
-  pub does : (first : Term) → HoldsTerm (entriesIn table) rs s first → Finished table out out′ (run (entriesIn table) fuel first) r
+  pub does : (first : Term) → HoldsTerm (entriesIn table) rs s first → Finished (entriesIn table) out out′ (run (entriesIn table) fuel first) r

@@ -2,3 +2,4 @@
 pub mod Running
 pub mod Looping
 pub mod Finishing
+pub mod Programs

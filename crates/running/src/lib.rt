@@ -1,7 +1,9 @@
-// The run of a term: steps until a value, spent fuel or a full table, and what is written then.
+// The run of a program that is passed: its first term, steps until a value, spent fuel or a full table, and what is written then.
+ghost use Rattle.rules.specs.Editions.{firstEdition};
 ghost use Rattle.records.specs.View.{entriesIn, recordsIn};
 ghost use Rattle.running.specs.Looping.{CanRun, RunsOut, Concludes};
 ghost use Rattle.running.specs.Finishing.{CanFinish, Finishes};
+ghost use Rattle.running.specs.Programs.{CanRunProgram, RunsProgram};
 use steps::State;
 
 // Steps until the term is a value, the fuel is spent or the table is full.
@@ -43,7 +45,7 @@ pub struct Completion {
 }
 
 // Runs the first term and writes the last one out, under a table of `types` entries.
-pub fn finish(
+fn finish(
     start: State,
     table: &[u8],
     types: u16,
@@ -62,4 +64,16 @@ pub fn finish(
         steps: last.steps,
         written: written as u32,
     }
+}
+
+// Runs a program that is passed, in a work buffer of just the length that a run needs.
+pub fn run_program(program: &[u8], fuel: u32, output: &mut [u8], work: &mut [u8]) -> Completion
+    requires { ⌜ CanRunProgram firstEdition (now program) (now output) (now work) ⌝ }
+    ensures { λ r. ⌜ RunsProgram (now (program .entry)) fuel (now (output .entry)) (now (output .exit)) r ⌝ }
+{
+    let types = records::get16(program, 0);
+    let count = records::get16(program, 2);
+    let end = 4 + 6 * (types as usize);
+    let start = State::start(&program[end..], count, work);
+    finish(start, &program[4..end], types, fuel, work, output)
 }
