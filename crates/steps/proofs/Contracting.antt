@@ -15,10 +15,10 @@ use Rattle.contexts.specs.Contexts.{plug}
 use Rattle.contexts.proofs.Sides.{size-plugged}
 use Rattle.terms.specs.Preorder.{There}
 use Rattle.zipper.specs.declared.focus.Ahead.{Ahead}
-use Rattle.zipper.specs.declared.ascending.Turn.the-variants.{Next}
+use Rattle.navigation.specs.declared.ascending.Turn.the-variants.{Next}
 use Rattle.zipper.specs.Layout.{leftRecords, rightRecords}
 use Rattle.zipper.specs.Moving.{Fills, CanPutAhead, PutsAhead}
-use Rattle.zipper.specs.Ascending.{HeldAhead, next}
+use Rattle.navigation.specs.Ascending.{HeldAhead, next}
 use Rattle.zipper.proofs.Sides.{length-left}
 use Rattle.contraction.specs.declared.making.Block.{Block}
 use Rattle.contraction.specs.Making.{Makes, CanMake, Made, MakesBlock}

@@ -12,9 +12,9 @@ use Rattle.rules.proofs.Laid.{size-some}
 use Rattle.contexts.specs.Contexts.{Context, leftSize}
 use Rattle.zipper.specs.declared.focus.Focus.{Focus}
 use Rattle.zipper.specs.declared.focus.Ahead.{Ahead}
-use Rattle.zipper.specs.declared.ascending.Turn.the-variants.{Next, Value, Redex, Match}
+use Rattle.navigation.specs.declared.ascending.Turn.the-variants.{Next, Value, Redex, Match}
 use Rattle.zipper.specs.Focusing.{LaidAt, HasAhead, Brings, CanCloseAll, ClosesAll}
-use Rattle.zipper.specs.Ascending.{Held, Sought, valued, redex, matched}
+use Rattle.navigation.specs.Ascending.{Held, Sought, valued, redex, matched}
 use Rattle.writing.specs.Program.{ProgramFits, CanWriteProgram, WritesProgram}
 use Rattle.steps.specs.declared.state.State.{State}
 use Rattle.steps.specs.Stepping.{Runs, HasRun}

@@ -18,7 +18,7 @@ use Rattle.terms.proofs.Trees.{first-tree, later-trees}
 use Rattle.zipper.specs.declared.focus.Focus.{Focus}
 use Rattle.zipper.specs.declared.focus.Ahead.{Ahead}
 use Rattle.zipper.specs.Moving.{IsHole, Drops}
-use Rattle.zipper.specs.Ascending.{Held}
+use Rattle.navigation.specs.Ascending.{Held}
 use Rattle.zipper.proofs.Places.{laid-few, at-start, frame-read, next-ones}
 use Rattle.contraction.specs.declared.plans.Plan.{Plan}
 use Rattle.contraction.specs.Redexes.{RedexAt, CanPlanWhole, TellsRule, PlansWhole}

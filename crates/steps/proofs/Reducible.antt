@@ -17,7 +17,7 @@ use Rattle.contexts.specs.Contexts.{first₃, Context, plug, levelAt, leftSize,
 use Rattle.contexts.specs.Moving.{Ready}
 use Rattle.contexts.proofs.Focused.{focus-contracts, contracted-next, contracted-no-value, contracted-typed}
 use Rattle.zipper.specs.declared.focus.Focus.{Focus}
-use Rattle.zipper.specs.Ascending.{Held}
+use Rattle.navigation.specs.Ascending.{Held}
 use Rattle.steps.specs.Stepping.{Becomes}
 
 pub record Reducible (types : Table) (C : Context) (t whole : Term) : Type 0 where

@@ -10,9 +10,9 @@ use Rattle.rules.proofs.Laid.{size-some}
 use Rattle.contexts.specs.Contexts.{Context}
 use Rattle.zipper.specs.declared.focus.Focus.{Focus}
 use Rattle.zipper.specs.declared.focus.Ahead.{Ahead}
-use Rattle.zipper.specs.declared.ascending.Turn.{Turn}
-use Rattle.zipper.specs.declared.ascending.Turn.the-variants.{Next, Value, Redex, Match}
-use Rattle.zipper.specs.Ascending.{HeldAhead, Sought, valued, redex, matched, Turned, next, sought}
+use Rattle.navigation.specs.declared.ascending.Turn.{Turn}
+use Rattle.navigation.specs.declared.ascending.Turn.the-variants.{Next, Value, Redex, Match}
+use Rattle.navigation.specs.Ascending.{HeldAhead, Sought, valued, redex, matched, Turned, next, sought}
 use Rattle.steps.specs.Seeking.{CanSeek, Searches, Seeks}
 
 -- What was sought is no further focus.

@@ -11,9 +11,9 @@ use Rattle.contexts.proofs.Contexts.{level-append}
 use Rattle.contexts.proofs.Inside.{levels-low, later-inside, typed-inside}
 use Rattle.zipper.specs.declared.focus.Focus.{Focus}
 use Rattle.zipper.specs.declared.focus.Ahead.{Ahead}
-use Rattle.zipper.specs.declared.ascending.Turn.{Turn}
+use Rattle.navigation.specs.declared.ascending.Turn.{Turn}
 use Rattle.zipper.specs.Focusing.{HasAhead, Brings}
-use Rattle.zipper.specs.Ascending.{HeldAhead, Rests, Turned, next, sought, CanAscend, Ascends, RedexIn, CanReach, Reaches}
+use Rattle.navigation.specs.Ascending.{HeldAhead, Rests, Turned, next, sought, CanAscend, Ascends, RedexIn, CanReach, Reaches}
 use Rattle.redexes.specs.declared.Found.{Found}
 use Rattle.redexes.specs.declared.Found.the-variants.{Done, Redex}
 use Rattle.redexes.specs.Finding.{find, CanFind, Finds}

@@ -15,9 +15,9 @@ use Rattle.terms.proofs.Storing.{stored-length, stored-at}
 use Rattle.contexts.specs.Contexts.{plug, levelAt, leftSize, Evaluation}
 use Rattle.contexts.specs.Sides.{rightSize, topPlace}
 use Rattle.zipper.specs.declared.focus.Ahead.{Ahead}
-use Rattle.zipper.specs.declared.ascending.Turn.the-variants.{Next}
+use Rattle.navigation.specs.declared.ascending.Turn.the-variants.{Next}
 use Rattle.zipper.specs.Layout.{leftRecords, rightRecords}
-use Rattle.zipper.specs.Ascending.{HeldAhead, next}
+use Rattle.navigation.specs.Ascending.{HeldAhead, next}
 use Rattle.steps.specs.Starting.{CanStart, Starts}
 
 -- The whole term as the focus, in the last slots.

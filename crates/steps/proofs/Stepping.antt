@@ -13,10 +13,10 @@ use Rattle.rules.specs.Format.{Record, mostRecords}
 use Rattle.contexts.specs.Contexts.{plug}
 use Rattle.zipper.specs.declared.focus.Focus.{Focus}
 use Rattle.zipper.specs.declared.focus.Ahead.{Ahead}
-use Rattle.zipper.specs.declared.ascending.Turn.{Turn}
-use Rattle.zipper.specs.declared.ascending.Turn.the-variants.{Next, Value, Redex, Match}
+use Rattle.navigation.specs.declared.ascending.Turn.{Turn}
+use Rattle.navigation.specs.declared.ascending.Turn.the-variants.{Next, Value, Redex, Match}
 use Rattle.zipper.specs.Moving.{IsHole, HasMatch, Drops}
-use Rattle.zipper.specs.Ascending.{Sought, redex, matched}
+use Rattle.navigation.specs.Ascending.{Sought, redex, matched}
 use Rattle.contraction.specs.declared.plans.Plan.{Plan}
 use Rattle.contraction.specs.Redexes.{CanPlanWhole, TellsRule, PlansWhole}
 use Rattle.contraction.specs.Matches.{HasMatch as HasOpen, TellsMatchRule, CanPlanMatch, PlansMatch}

@@ -7,9 +7,9 @@ use Rattle.rules.specs.Types.{Table}
 use Rattle.rules.specs.Format.{Record}
 use Rattle.zipper.specs.declared.focus.Focus.{Focus}
 use Rattle.zipper.specs.declared.focus.Ahead.{Ahead}
-use Rattle.zipper.specs.declared.ascending.Turn.{Turn}
-use Rattle.zipper.specs.declared.ascending.Turn.the-variants.{Next, Value, Redex, Match}
-use Rattle.zipper.specs.Ascending.{Sought, Turned, next, sought}
+use Rattle.navigation.specs.declared.ascending.Turn.{Turn}
+use Rattle.navigation.specs.declared.ascending.Turn.the-variants.{Next, Value, Redex, Match}
+use Rattle.navigation.specs.Ascending.{Sought, Turned, next, sought}
 use Rattle.steps.specs.declared.state.State.{State}
 use Rattle.steps.specs.Seeking.{CanSeek, Seeks}
 use Rattle.steps.specs.Stepping.{HoldsTerm, HasTerm, SeeksTerm}

@@ -10,9 +10,9 @@ use Rattle.rules.specs.Format.{Record, mostRecords}
 use Rattle.rules.proofs.General.{is-true}
 use Rattle.zipper.specs.declared.focus.Focus.{Focus}
 use Rattle.zipper.specs.declared.focus.Ahead.{Ahead}
-use Rattle.zipper.specs.declared.ascending.Turn.{Turn}
-use Rattle.zipper.specs.declared.ascending.Turn.the-variants.{Next, Value, Redex, Match}
-use Rattle.zipper.specs.Ascending.{Sought, valued, redex, matched}
+use Rattle.navigation.specs.declared.ascending.Turn.{Turn}
+use Rattle.navigation.specs.declared.ascending.Turn.the-variants.{Next, Value, Redex, Match}
+use Rattle.navigation.specs.Ascending.{Sought, valued, redex, matched}
 use Rattle.zipper.proofs.Places.{laid-few}
 use Rattle.steps.specs.declared.state.State.{State}
 use Rattle.steps.specs.Stepping.{Runs, TellsValue}

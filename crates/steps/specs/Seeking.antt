@@ -6,8 +6,8 @@ use Rattle.rules.specs.Types.{Table}
 use Rattle.rules.specs.Format.{Record}
 use Rattle.contexts.specs.Contexts.{Context}
 use Rattle.zipper.specs.declared.focus.Ahead.{Ahead}
-use Rattle.zipper.specs.declared.ascending.Turn.{Turn}
-use Rattle.zipper.specs.Ascending.{HeldAhead, Sought, Turned}
+use Rattle.navigation.specs.declared.ascending.Turn.{Turn}
+use Rattle.navigation.specs.Ascending.{HeldAhead, Sought, Turned}
 
 -- A typed term is laid out around a focus that is to be searched.
 pub record CanSeek (rs : List Record) (a : Ahead) : Type 0 where

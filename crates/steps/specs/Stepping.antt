@@ -11,7 +11,7 @@ use Rattle.rules.specs.Contractions.{ruleNumber}
 use Rattle.rules.specs.Steps.{Event}
 use Rattle.rules.specs.Next.{next}
 use Rattle.rules.specs.Format.{Record, mostRecords}
-use Rattle.zipper.specs.Ascending.{Sought, Turned}
+use Rattle.navigation.specs.Ascending.{Sought, Turned}
 use Rattle.steps.specs.declared.events.Event.{Event as Told}
 use Rattle.steps.specs.declared.state.State.{State}
 

@@ -1,7 +1,7 @@
 // From a focus that is to be searched to the record that is rewritten next, or to a value. The term stays the same.
 use redexes::Found;
 use zipper::Ahead;
-use zipper::Turn;
+use navigation::Turn;
 ghost use Rattle.records.specs.View.{recordsIn};
 ghost use Rattle.steps.specs.Seeking.{CanSeek, Searches, Seeks};
 
@@ -12,10 +12,10 @@ fn search(w: &mut [u8], a: Ahead) -> Turn
 {
     let found = redexes::find_at(w, a.r, a.level);
     match found {
-        Found::Redex(p) => zipper::reach(w, a, p),
+        Found::Redex(p) => navigation::reach(w, a, p),
         Found::Done(_) => {
             let z = zipper::bring(w, a);
-            zipper::ascend(w, z, a.level)
+            navigation::ascend(w, z, a.level)
         }
     }
 }

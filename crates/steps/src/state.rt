@@ -4,7 +4,7 @@ use crate::seeking::seek_from;
 use contraction::Plan;
 use zipper::Ahead;
 use zipper::Focus;
-use zipper::Turn;
+use navigation::Turn;
 ghost use Rattle.records.specs.View.{entriesIn, recordsIn};
 ghost use Rattle.steps.specs.Stepping.{HasTerm, SeeksTerm, HasRun, TellsValue, CanStep, Stepped};
 ghost use Rattle.steps.specs.Contracting.{Aims, CanProceed, Proceeds};

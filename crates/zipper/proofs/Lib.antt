@@ -9,8 +9,4 @@ pub mod Closing
 pub mod Wholes
 pub mod Opening
 pub mod Bringing
-pub mod Downward
 pub mod Filling
-pub mod Turns
-pub mod Climbing
-pub mod Reaching

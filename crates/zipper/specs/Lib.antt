@@ -1,6 +1,4 @@
 -- The zipper: a term laid out around its focus in one list of records.
 pub mod Layout
 pub mod Focusing
-pub mod Ascending
-pub mod Descending
 pub mod Moving

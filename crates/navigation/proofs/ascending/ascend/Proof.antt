@@ -3,9 +3,9 @@ use mathlib.Core.Path.{_≡_}
 use lib.ListN.{length}
 use borrow.Author.Needs.{needs}
 use Rattle.records.specs.View.{recordsIn}
-use Rattle.zipper.proofs.Climbing.{Climbing, climbing}
-use Rattle.zipper.proofs.ascending.ascend.Statement.{statement}
-use Rattle.zipper.proofs.ascending.ascend.Tie as tie
+use Rattle.navigation.proofs.Climbing.{Climbing, climbing}
+use Rattle.navigation.proofs.ascending.ascend.Statement.{statement}
+use Rattle.navigation.proofs.ascending.ascend.Tie as tie
 
 abbrev Inv-loop : tie.InvT-loop
 Inv-loop w₀ level at₀ inner₀ w at inner = (length w ≡ length w₀) × Climbing (recordsIn w₀) at₀ level (recordsIn w) at inner

@@ -1,8 +1,8 @@
 -- `steps_next` meets its contract. Assumes nothing.
 use borrow.Author.Needs.{needs}
-use Rattle.zipper.proofs.Turns.{telling}
-use Rattle.zipper.proofs.ascending.steps_next.Statement.{statement}
-use Rattle.zipper.proofs.ascending.steps_next.Tie as tie
+use Rattle.navigation.proofs.Turns.{telling}
+use Rattle.navigation.proofs.ascending.steps_next.Statement.{statement}
+use Rattle.navigation.proofs.ascending.steps_next.Tie as tie
 
 pub steps-next-spec : {M : Type 1} → statement M
 steps-next-spec =

@@ -1,12 +1,12 @@
 // From a focus that is done to the next: a further child of a frame, a record that is rewritten, or the whole term, where that is a value. And from
 // a focus to the record inside it that is rewritten.
 use crate::descending::descend;
-use crate::focus::Ahead;
-use crate::focus::Focus;
-use crate::focus::bring;
-use crate::focus::children_after;
-use crate::focus::close;
-use crate::focus::open_ahead;
+use zipper::Ahead;
+use zipper::Focus;
+use zipper::bring;
+use zipper::children_after;
+use zipper::close;
+use zipper::open_ahead;
 use terms::kind_at;
 ghost use mathlib.Core.Path.{_≡_};
 ghost use Prim.Native.Nat.{_≤_};
@@ -15,7 +15,7 @@ ghost use Rattle.rules.specs.Contractions.{contracts};
 ghost use Rattle.rules.specs.Steps.{stepping};
 ghost use Rattle.contexts.specs.Contexts.{outerLevel};
 ghost use Rattle.records.specs.View.{recordsIn};
-ghost use Rattle.zipper.specs.Ascending.{CanTellNext, TellsNext, CanAscend, Ascends, CanReach, Reaches};
+ghost use Rattle.navigation.specs.Ascending.{CanTellNext, TellsNext, CanAscend, Ascends, CanReach, Reaches};
 
 // Where a focus that is done leads: a next focus, which is to be searched; or "the term is a value"; or a record that is rewritten, at its
 // level. A match that is rewritten stays open: its code is the focus.

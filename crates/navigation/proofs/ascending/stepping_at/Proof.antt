@@ -4,8 +4,8 @@ use mathlib.Core.Path.{ap, _∙_}
 use borrow.Author.Needs.{needs}
 use Rattle.rules.specs.Kinds.{kindOf}
 use Rattle.rules.specs.Steps.{stepping}
-use Rattle.zipper.proofs.ascending.stepping_at.Statement.{statement}
-use Rattle.zipper.proofs.ascending.stepping_at.Tie as tie
+use Rattle.navigation.proofs.ascending.stepping_at.Statement.{statement}
+use Rattle.navigation.proofs.ascending.stepping_at.Tie as tie
 
 pub stepping-at-spec : {M : Type 1} → statement M
 stepping-at-spec =

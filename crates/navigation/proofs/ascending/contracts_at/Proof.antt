@@ -4,8 +4,8 @@ use mathlib.Core.Path.{ap, _∙_}
 use borrow.Author.Needs.{needs}
 use Rattle.rules.specs.Kinds.{kindOf}
 use Rattle.rules.specs.Contractions.{contracts}
-use Rattle.zipper.proofs.ascending.contracts_at.Statement.{statement}
-use Rattle.zipper.proofs.ascending.contracts_at.Tie as tie
+use Rattle.navigation.proofs.ascending.contracts_at.Statement.{statement}
+use Rattle.navigation.proofs.ascending.contracts_at.Tie as tie
 
 pub contracts-at-spec : {M : Type 1} → statement M
 contracts-at-spec =

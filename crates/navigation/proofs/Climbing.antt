@@ -12,13 +12,13 @@ use Rattle.rules.specs.Types.{Table}
 use Rattle.rules.specs.Contractions.{contracts}
 use Rattle.rules.specs.Format.{Record}
 use Rattle.contexts.specs.Contexts.{outerLevel, Context}
 use Rattle.zipper.specs.declared.focus.Focus.{Focus}
-use Rattle.zipper.specs.declared.ascending.Turn.the-variants.{Next, Value, Redex, Match}
+use Rattle.navigation.specs.declared.ascending.Turn.the-variants.{Next, Value, Redex, Match}
 use Rattle.terms.specs.Measuring.{KindIs}
 use Rattle.zipper.specs.Focusing.{CanClose, Closes}
-use Rattle.zipper.specs.Ascending.{Rests, CanTellNext, TellsNext, sought, CanAscend, Ascends}
+use Rattle.navigation.specs.Ascending.{Rests, CanTellNext, TellsNext, sought, CanAscend, Ascends}
 use Rattle.zipper.proofs.Rows.{frame-in}
-use Rattle.zipper.proofs.Turns.{RestsIn, Framed, framed, outermost, frame-held, frame-tells, frame-closes, hole-goes-on, match-stays, closed-outward, closed-onward, closed-redex, closed-done}
+use Rattle.navigation.proofs.Turns.{RestsIn, Framed, framed, outermost, frame-held, frame-tells, frame-closes, hole-goes-on, match-stays, closed-outward, closed-onward, closed-redex, closed-done}
 
 -- The focus is done at each turn, and the right side only gets shorter.
 pub record Climbing (rs₀ : List Record) (z₀ : Focus) (l₀ : ℕ) (rs : List Record) (z : Focus) (l : ℕ) : Type 0 where

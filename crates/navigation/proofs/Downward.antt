@@ -16,12 +16,12 @@ use Rattle.terms.specs.Children.{sizes, preorders}
 use Rattle.contexts.specs.Contexts.{Frame, fill, frameKind, childrenBefore, childrenAfter, holeNumber, Context, plug, levelAt, leftSize}
 use Rattle.contexts.proofs.Contexts.{plug-append, left-append}
 use Rattle.contexts.proofs.Sides.{kids-filled, size-plugged}
 use Rattle.zipper.specs.declared.focus.Ahead.{Ahead}
 use Rattle.terms.specs.Preorder.{There, At, HasTree, Skips}
 use Rattle.zipper.specs.Focusing.{AheadAt, CanOpen, Opens}
-use Rattle.zipper.specs.Descending.{Leads, CanTellChild, TellsChild, Towards, CanDescend, Descends}
+use Rattle.navigation.specs.Descending.{Leads, CanTellChild, TellsChild, Towards, CanDescend, Descends}
 use Rattle.terms.proofs.Trees.{first-tree, later-trees, kids-there}
 use Rattle.zipper.proofs.Rows.{children-counted}
 
 -- The hole is one of three children at most.
 hole-few : (F : Frame) → holeNumber F ≤ 2

@@ -4,9 +4,9 @@ use native.Mathlib.Omega.{arith}
 use Rattle.rules.specs.Kinds.{kindOf}
 use Rattle.kinds.proofs.KindRanges.{itself, itself-one, arm, rest}
 use Rattle.contexts.specs.Contexts.{outerLevel}
-use Rattle.zipper.proofs.Turns.{keeps-level}
-use Rattle.zipper.proofs.ascending.outer_level.Statement.{statement}
-use Rattle.zipper.proofs.ascending.outer_level.Tie as tie
+use Rattle.navigation.proofs.Turns.{keeps-level}
+use Rattle.navigation.proofs.ascending.outer_level.Statement.{statement}
+use Rattle.navigation.proofs.ascending.outer_level.Tie as tie
 
 pub outer-level-spec : {M : Type 1} → statement M
 outer-level-spec = tie.close (tie.spec

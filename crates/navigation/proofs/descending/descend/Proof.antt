@@ -4,9 +4,9 @@ use mathlib.Core.Path.{_≡_}
 use lib.ListN.{length}
 use borrow.Author.Needs.{needs}
 use Rattle.records.specs.View.{recordsIn}
-use Rattle.zipper.proofs.Downward.{Deepening, deepening}
-use Rattle.zipper.proofs.descending.descend.Statement.{statement}
-use Rattle.zipper.proofs.descending.descend.Tie as tie
+use Rattle.navigation.proofs.Downward.{Deepening, deepening}
+use Rattle.navigation.proofs.descending.descend.Statement.{statement}
+use Rattle.navigation.proofs.descending.descend.Tie as tie
 
 abbrev Inv-loop : tie.InvT-loop
 Inv-loop w₀ p at₀ w at = (length w ≡ length w₀) × Deepening (recordsIn w₀) at₀ p (recordsIn w) at

@@ -1,8 +1,8 @@
 -- `reach` meets its contract. Assumes nothing.
 use borrow.Author.Needs.{needs}
-use Rattle.zipper.proofs.Reaching.{reaching}
-use Rattle.zipper.proofs.ascending.reach.Statement.{statement}
-use Rattle.zipper.proofs.ascending.reach.Tie as tie
+use Rattle.navigation.proofs.Reaching.{reaching}
+use Rattle.navigation.proofs.ascending.reach.Statement.{statement}
+use Rattle.navigation.proofs.ascending.reach.Tie as tie
 
 pub reach-spec : {M : Type 1} → statement M
 reach-spec =

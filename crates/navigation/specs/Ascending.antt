@@ -15,11 +15,11 @@ use Rattle.rules.specs.Steps.{stepsChild}
 use Rattle.rules.specs.Format.{Record}
 use Rattle.contexts.specs.Contexts.{Frame, first₃, frameKind, holeNumber, Context, plug, levelAt, leftSize, Evaluation}
 use Rattle.contexts.specs.Moving.{Ready}
 use Rattle.zipper.specs.declared.focus.Focus.{Focus}
 use Rattle.zipper.specs.declared.focus.Ahead.{Ahead}
-use Rattle.zipper.specs.declared.ascending.Turn.{Turn}
-use Rattle.zipper.specs.declared.ascending.Turn.the-variants.{Next, Value, Redex, Match}
+use Rattle.navigation.specs.declared.ascending.Turn.{Turn}
+use Rattle.navigation.specs.declared.ascending.Turn.the-variants.{Next, Value, Redex, Match}
 use Rattle.zipper.specs.Focusing.{LaidAt, AheadAt, HasFrame}
 
 -- The typed term `whole` is laid out in some way around a focus: t, at this level, in the evaluation context C.
 pub record HeldIn (types : Table) (Laid : Context → Term → Type 0) (level : ℕ) (C : Context) (t whole : Term) : Type 0 where

@@ -1,9 +1,9 @@
 // From a focus down to a tree inside it: the records on the way become frames.
-use crate::focus::Ahead;
-use crate::focus::open_ahead;
+use zipper::Ahead;
+use zipper::open_ahead;
 use terms::skip;
 ghost use Rattle.records.specs.View.{recordsIn};
-ghost use Rattle.zipper.specs.Descending.{CanTellChild, TellsChild, CanDescend, Descends};
+ghost use Rattle.navigation.specs.Descending.{CanTellChild, TellsChild, CanDescend, Descends};
 
 // Which of the children that stand from `first` on the record at `p` is in, counted from 0.
 fn child_towards(w: &[u8], first: usize, p: usize) -> u16

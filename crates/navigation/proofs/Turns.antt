@@ -22,15 +22,15 @@ use Rattle.contexts.specs.Moving.{Ready}
 use Rattle.contexts.proofs.Contexts.{root-filled}
 use Rattle.contexts.proofs.Moving.{moved-on as hole-moves, moved-inside, ready, frame-done}
 use Rattle.contexts.proofs.Inside.{levels-low, outer-level}
 use Rattle.zipper.specs.declared.focus.Focus.{Focus}
-use Rattle.zipper.specs.declared.ascending.Turn.the-variants.{Next, Value, Redex, Match}
+use Rattle.navigation.specs.declared.ascending.Turn.the-variants.{Next, Value, Redex, Match}
 use Rattle.terms.specs.Measuring.{KindIs}
 use Rattle.zipper.specs.Focusing.{LaidAt, HasFrame, CountsAfter, CanClose, Closes}
-use Rattle.zipper.specs.Ascending.{Held, Rests, CanTellNext, TellsNext, Sought, valued, redex, matched, Turned, next}
+use Rattle.navigation.specs.Ascending.{Held, Rests, CanTellNext, TellsNext, Sought, valued, redex, matched, Turned, next}
 use Rattle.zipper.proofs.Places.{at-start, frame-read}
 use Rattle.zipper.proofs.Rows.{frame-in, counted}
 use Rattle.zipper.proofs.Moves.{hole-moved}
 use Rattle.zipper.proofs.Closing.{filled-low}
 
 -- `outer_level`: every kind but quote and splice stands at its children's level.
 pub keeps-level : (k : Kind) → 2 ≡ outerLevel k 2 → (l : ℕ) → l ≡ outerLevel k l

@@ -15,15 +15,15 @@ use Rattle.rules.proofs.KindTable.{each-kind, kind-back}
 use Rattle.contexts.specs.Contexts.{Frame, first₃, holeLevel, Context, plug, levelAt, Evaluation}
 use Rattle.contexts.specs.Moving.{Ready}
 use Rattle.contexts.proofs.Contexts.{plug-append, evaluation-append}
 use Rattle.zipper.specs.declared.focus.Focus.{Focus}
 use Rattle.zipper.specs.declared.focus.Ahead.{Ahead}
-use Rattle.zipper.specs.declared.ascending.Turn.the-variants.{Redex, Match}
+use Rattle.navigation.specs.declared.ascending.Turn.the-variants.{Redex, Match}
 use Rattle.terms.specs.Measuring.{KindIs}
 use Rattle.zipper.specs.Focusing.{AheadAt, HasAhead, Brings, CanOpen, Opens}
-use Rattle.zipper.specs.Ascending.{HeldIn, HeldAhead, Sought, redex, RedexIn, CanReach, Reaches}
-use Rattle.zipper.specs.Descending.{Towards, CanDescend, Descends}
+use Rattle.navigation.specs.Ascending.{HeldIn, HeldAhead, Sought, redex, RedexIn, CanReach, Reaches}
+use Rattle.navigation.specs.Descending.{Towards, CanDescend, Descends}
 use Rattle.terms.proofs.Trees.{at-first, kind-read}
-use Rattle.zipper.proofs.Turns.{match-stops}
+use Rattle.navigation.proofs.Turns.{match-stops}
 
 -- A match is rewritten at level 0, where it steps its code.
 contracted-level : (l : ℕ) (k : Ternary) → T (contracts l (ternary₃ k)) → l ≡ 0

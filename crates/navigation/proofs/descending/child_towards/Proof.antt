@@ -2,9 +2,9 @@
 use Prim.Native.Nat.{_-_}
 use borrow.Author.Needs.{needs}
 use Rattle.records.specs.View.{recordsIn}
-use Rattle.zipper.proofs.Downward.{Telling, towards}
-use Rattle.zipper.proofs.descending.child_towards.Statement.{statement}
-use Rattle.zipper.proofs.descending.child_towards.Tie as tie
+use Rattle.navigation.proofs.Downward.{Telling, towards}
+use Rattle.navigation.proofs.descending.child_towards.Statement.{statement}
+use Rattle.navigation.proofs.descending.child_towards.Tie as tie
 
 abbrev Inv-loop : tie.InvT-loop
 Inv-loop w first p at₀ j₀ at j = Telling (recordsIn w) first p at j

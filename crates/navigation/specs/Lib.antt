@@ -1,0 +1,3 @@
+-- The way of a focus through its term.
+pub mod Ascending
+pub mod Descending
