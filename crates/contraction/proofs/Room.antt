@@ -10,7 +10,7 @@ use Rattle.rules.specs.Format.{Record}
 use Rattle.terms.specs.Preorder.{Skips}
 use Rattle.substitution.specs.declared.arguments.Argument.{Argument}
 use Rattle.substitution.specs.declared.arguments.Arguments.{Arguments}
-use Rattle.substitution.specs.Counting.{HasArgument, Measures, CanFit, TellsRoom}
+use Rattle.sizes.specs.Counting.{HasArgument, Measures, CanFit, TellsRoom}
 use Rattle.contraction.specs.declared.plans.Plan.{Plan}
 use Rattle.contraction.specs.declared.plans.Plan.the-variants.{Tree, Body, Made}
 use Rattle.contraction.specs.Plans.{Planned}

@@ -1,15 +1,15 @@
 // Contraction: what a redex becomes, by the places of trees.
 mod bodies; // a body whose variables give way
 mod making; // the contractum, measured and made
-mod matching; // what a match becomes
 mod plans; // what a redex becomes, as a value
 mod whole; // what a redex of the other kinds becomes
 
+pub use bodies::body_with;
+pub use bodies::body_with_one;
+pub use bodies::body_with_tree;
 pub use making::Block;
 pub use making::fits;
 pub use making::make;
-pub use matching::match_rule;
-pub use matching::plan_match;
 pub use plans::Plan;
 pub use whole::plan_whole;
 pub use whole::whole_rule;

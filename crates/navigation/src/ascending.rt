@@ -1,13 +1,13 @@
 // From a focus that is done to the next: a further child of a frame, a record that is rewritten, or the whole term, where that is a value. And from
 // a focus to the record inside it that is rewritten.
 use crate::descending::descend;
+use terms::kind_at;
 use zipper::Ahead;
 use zipper::Focus;
 use zipper::bring;
 use zipper::children_after;
 use zipper::close;
 use zipper::open_ahead;
-use terms::kind_at;
 ghost use mathlib.Core.Path.{_≡_};
 ghost use Prim.Native.Nat.{_≤_};
 ghost use Rattle.rules.specs.Kinds.{kindOf};

@@ -1,7 +1,7 @@
 // From a focus down to a tree inside it: the records on the way become frames.
+use terms::skip;
 use zipper::Ahead;
 use zipper::open_ahead;
-use terms::skip;
 ghost use Rattle.records.specs.View.{recordsIn};
 ghost use Rattle.navigation.specs.Descending.{CanTellChild, TellsChild, CanDescend, Descends};
 

@@ -6,7 +6,7 @@ use mathlib.Core.List.{List}
 use mathlib.Core.Path.{_≡_, refl, ap, ap₂}
 use lib.ListN.{length}
 use borrow.Author.Tests.{lt-ltb, ne-eqb}
-use Rattle.rules.specs.Kinds.{number, variable, Ternary, matchVariable, matchShape, match, ternary₃}
+use Rattle.rules.specs.Kinds.{number, variable, Unary, Binary, Ternary, matchVariable, matchShape, match, ternary₃}
 use Rattle.rules.specs.Terms.{Fields, Term, leaf, unary, binary, ternary}
 use Rattle.rules.specs.Binders.{binds₁, binds₃}
 use Rattle.rules.specs.FreeBounds.{ownBound, freeBound}
@@ -30,39 +30,37 @@ module _ (o x m y n z d : ℕ) where
   root-most : o ≤ d → x ≤ m + d → y ≤ n + d → z ≤ d → max o (max (x - m) (max (y - n) z)) ≤ d
   root-most p q r s = omega arith
 
-  module _ (b : max o (max (x - m) (max (y - n) z)) ≤ d) where
-    own-most : o ≤ d
-    own-most = omega arith
+  parts-most : max o (max (x - m) (max (y - n) z)) ≤ d → (o ≤ d) × (x ≤ m + d) × (y ≤ n + d) × (z ≤ d)
+  parts-most b = (omega arith, omega arith, omega arith, omega arith)
 
-    first-most : x ≤ m + d
-    first-most = omega arith
+module _ (d : ℕ) where
+  pub variable-low : (f : Fields) → freeBound (leaf variable f) ≤ d → f .a < d
+  unfolding freeBound
+  variable-low f b = omega arith
 
-    second-most : y ≤ n + d
-    second-most = omega arith
+  pub child-low : (k : Unary) (f : Fields) (t : Term) → freeBound (unary k f t) ≤ d → freeBound t ≤ length (binds₁ k f) + d
+  unfolding freeBound
+  child-low k f t b = let (_, p, _, _) = parts-most 0 (freeBound t) (length (binds₁ k f)) 0 0 0 d b in p
 
-    third-most : z ≤ d
-    third-most = omega arith
+  pub both-low : (k : Binary) (f : Fields) (t u : Term) → freeBound (binary k f t u) ≤ d → (freeBound t ≤ d) × (freeBound u ≤ d)
+  unfolding freeBound
+  both-low k f t u b = let (_, p, q, _) = rw zero-add at (parts-most 0 (freeBound t) 0 (freeBound u) 0 0 d b) in (p, q)
 
-own-below : (i x m y n z d : ℕ) → max (i + 1) (max (x - m) (max (y - n) z)) ≤ d → i < d
-own-below i x m y n z d b = omega arith
+  pub parts-low : (k : Ternary) (f : Fields) (t s e : Term) → freeBound (ternary k f t s e) ≤ d
+      → (ownBound (ternary₃ k) f ≤ d) × (freeBound t ≤ d) × (freeBound s ≤ length (binds₃ k f) + d) × (freeBound e ≤ d)
+  unfolding freeBound
+  parts-low k f t s e b = rw zero-add at (parts-most (ownBound (ternary₃ k) f) (freeBound t) 0 (freeBound s) (length (binds₃ k f)) (freeBound e) d b)
 
 -- Such a change leaves a tree as it is whose bound is at most d.
 pub changed-low : (c : Change) → KeepsLow c → (d : ℕ) (t : Term) → freeBound t ≤ d → changed c d t ≡ t
-unfolding changed freeBound
+unfolding changed
 changed-low c h d (leaf number f) b = refl
-changed-low c h d (leaf variable f) b = h .onVariable d f (own-below (f .a) 0 0 0 0 0 d b)
-changed-low c h d (unary k f t) b = ap (unary k f) (changed-low c h (length (binds₁ k f) + d) t (first-most 0 (freeBound t) (length (binds₁ k f)) 0 0 0 d b))
-changed-low c h d (binary k f t u) b =
-    ap₂ (binary k f) (changed-low c h d t (rw zero-add at (first-most 0 (freeBound t) 0 (freeBound u) 0 0 d b))) (changed-low c h d u (rw zero-add at (second-most 0 (freeBound t) 0 (freeBound u) 0 0 d b)))
+changed-low c h d (leaf variable f) b = h .onVariable d f (variable-low d f b)
+changed-low c h d (unary k f t) b = ap (unary k f) (changed-low c h (length (binds₁ k f) + d) t (child-low d k f t b))
+changed-low c h d (binary k f t u) b = let (p, q) = both-low d k f t u b in ap₂ (binary k f) (changed-low c h d t p) (changed-low c h d u q)
 changed-low c h d (ternary k f t s e) b =
-    let o = ownBound (ternary₃ k) f in
-    let n = length (binds₃ k f) in
-    rw (
-      fields-low c h d k f (own-most o (freeBound t) 0 (freeBound s) n (freeBound e) d b),
-      changed-low c h d t (rw zero-add at (first-most o (freeBound t) 0 (freeBound s) n (freeBound e) d b)),
-      changed-low c h (n + d) s (second-most o (freeBound t) 0 (freeBound s) n (freeBound e) d b),
-      changed-low c h d e (third-most o (freeBound t) 0 (freeBound s) n (freeBound e) d b),
-    )
+    let (o, p, q, r) = parts-low d k f t s e b in
+    rw (fields-low c h d k f o, changed-low c h d t p, changed-low c h (length (binds₃ k f) + d) s q, changed-low c h d e r)
 
 -- Raising, replacing and wrapping are such changes.
 pub raising-low : (n : ℕ) → KeepsLow (raising n)

@@ -1,6 +1,4 @@
 -- The laws of the step.
-pub mod Searching
-pub mod SearchLoop
 pub mod Reducible
 pub mod Values
 pub mod TermSearch

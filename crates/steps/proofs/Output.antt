@@ -19,7 +19,7 @@ use Rattle.writing.specs.Program.{ProgramFits, CanWriteProgram, WritesProgram}
 use Rattle.steps.specs.declared.state.State.{State}
 use Rattle.steps.specs.Stepping.{Runs, HasRun}
 use Rattle.steps.specs.Output.{LaidOut, Settles, CanWriteOut, WritesOut}
-use Rattle.steps.proofs.SearchLoop.{sought-over}
+use Rattle.seeking.proofs.SearchLoop.{sought-over}
 use Rattle.steps.proofs.Values.{runs-few}
 
 -- The focus of what was sought.

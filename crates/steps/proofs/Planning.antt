@@ -22,7 +22,7 @@ use Rattle.navigation.specs.Ascending.{Held}
 use Rattle.zipper.proofs.Places.{laid-few, at-start, frame-read, next-ones}
 use Rattle.contraction.specs.declared.plans.Plan.{Plan}
 use Rattle.contraction.specs.Redexes.{RedexAt, CanPlanWhole, TellsRule, PlansWhole}
-use Rattle.contraction.specs.Matches.{OpenMatch, HasMatch, TellsMatchRule, PlansMatch}
+use Rattle.matching.specs.Matches.{OpenMatch, HasMatch, TellsMatchRule, PlansMatch}
 use Rattle.steps.specs.declared.state.State.{State}
 use Rattle.steps.specs.Stepping.{Runs}
 use Rattle.steps.specs.Contracting.{Contracting}

@@ -19,13 +19,13 @@ use Rattle.zipper.specs.Moving.{IsHole, HasMatch, Drops}
 use Rattle.navigation.specs.Ascending.{Sought, redex, matched}
 use Rattle.contraction.specs.declared.plans.Plan.{Plan}
 use Rattle.contraction.specs.Redexes.{CanPlanWhole, TellsRule, PlansWhole}
-use Rattle.contraction.specs.Matches.{HasMatch as HasOpen, TellsMatchRule, CanPlanMatch, PlansMatch}
+use Rattle.matching.specs.Matches.{HasMatch as HasOpen, TellsMatchRule, CanPlanMatch, PlansMatch}
 use Rattle.contraction.specs.Making.{CanMeasure, TellsFits}
 use Rattle.steps.specs.declared.state.State.{State}
 use Rattle.steps.specs.declared.state.Aim.{Aim}
 use Rattle.steps.specs.Stepping.{Runs, CanStep, too-large, Stepped}
 use Rattle.steps.specs.Contracting.{Contracting, Aims, Roomy, CanProceed, Proceeds}
-use Rattle.steps.proofs.SearchLoop.{sought-over}
+use Rattle.seeking.proofs.SearchLoop.{sought-over}
 use Rattle.steps.proofs.Values.{sought-value}
 use Rattle.steps.proofs.Contracting.{next-size, wide, inside}
 use Rattle.steps.proofs.Planning.{whole-plans, whole-contracting, open-plans, open-contracting}

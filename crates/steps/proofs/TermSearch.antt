@@ -11,9 +11,9 @@ use Rattle.navigation.specs.declared.ascending.Turn.{Turn}
 use Rattle.navigation.specs.declared.ascending.Turn.the-variants.{Next, Value, Redex, Match}
 use Rattle.navigation.specs.Ascending.{Sought, Turned, next, sought}
 use Rattle.steps.specs.declared.state.State.{State}
-use Rattle.steps.specs.Seeking.{CanSeek, Seeks}
+use Rattle.seeking.specs.Seeking.{CanSeek, Seeks}
 use Rattle.steps.specs.Stepping.{HoldsTerm, HasTerm, SeeksTerm}
-use Rattle.steps.proofs.SearchLoop.{NoNext, sought-over}
+use Rattle.seeking.proofs.SearchLoop.{NoNext, sought-over}
 
 module _ (rs : List Record) (s : State) where
   at-turn : (x : Turn) → s .turn ≡ x → (types : Table) (t : Term) → HoldsTerm types rs s t → Turned types rs 0 t x

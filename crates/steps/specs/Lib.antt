@@ -1,5 +1,4 @@
 -- What the contracts of the step cite.
-pub mod Seeking
 pub mod Stepping
 pub mod Contracting
 pub mod Starting

@@ -1,10 +1,10 @@
 // A run's state by value, and its step.
 use crate::events::Event;
-use crate::seeking::seek_from;
 use contraction::Plan;
+use navigation::Turn;
+use seeking::seek_from;
 use zipper::Ahead;
 use zipper::Focus;
-use navigation::Turn;
 ghost use Rattle.records.specs.View.{entriesIn, recordsIn};
 ghost use Rattle.steps.specs.Stepping.{HasTerm, SeeksTerm, HasRun, TellsValue, CanStep, Stepped};
 ghost use Rattle.steps.specs.Contracting.{Aims, CanProceed, Proceeds};
@@ -94,10 +94,10 @@ impl State {
                 hole: zipper::hole_of(z, level),
             },
             Turn::Match(z) => {
-                let rule = contraction::match_rule(table, work, z.top, z.r);
+                let rule = matching::match_rule(table, work, z.top, z.r);
                 Aim {
                     rule,
-                    plan: contraction::plan_match(table, work, z.top, z.r, rule),
+                    plan: matching::plan_match(table, work, z.top, z.r, rule),
                     free: z.l,
                     hole: zipper::dropped(work, z),
                 }

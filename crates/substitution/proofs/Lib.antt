@@ -2,6 +2,3 @@
 pub mod MadeCopies
 pub mod Sums
 pub mod ReplacedCopies
-pub mod SizesAfter
-pub mod ArgumentSizes
-pub mod ReplacedSizes

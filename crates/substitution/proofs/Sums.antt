@@ -1,25 +1,20 @@
--- Sums over the records of a tree: by its root and its children, of a tree without an index that counts, how large they get, and that they are sizes
--- of changed trees.
+-- Sums over the records of a tree: by its root and its children, and of a tree without an index that counts.
 use Prim.Native.Nat.{ℕ, suc, _+_, _*_, _≤_, _<_}
 use native.Mathlib.Nat.{add-comm, add-zero, mul-one, mul-add}
 use native.Mathlib.Numerals.{add-one}
 use native.Mathlib.Omega.{arith}
 use mathlib.Core.List.{List, [], _∷_}
-use mathlib.Core.Bool.{Bool, true, false}
 use mathlib.Core.Path.{_≡_, refl, sym, _∙_}
-use lib.Dec.{eqb}
 use lib.ListN.{length}
-use Rattle.rules.specs.Lists.{pick}
 use Rattle.rules.specs.Kinds.{number, variable, Kind, unary₁, ternary₃, childCount}
 use Rattle.rules.specs.Terms.{Fields, Term, leaf, unary, binary, ternary, rootKind, size}
 use Rattle.rules.specs.Binders.{binds₁, binds₃, bindersFirst, bindersSecond}
 use Rattle.rules.specs.FreeBounds.{freeBound}
-use Rattle.rules.specs.Indices.{Change, changed, namesRemoved, summed}
-use Rattle.rules.proofs.General.{picked}
+use Rattle.rules.specs.Indices.{summed}
+use Rattle.rules.proofs.FreeBounds.{variable-low, child-low, both-low, parts-low}
 use Rattle.terms.specs.Children.{kids}
 use Rattle.terms.specs.Measuring.{bindersOver}
 use Rattle.terms.proofs.Joined.{first-over, second-over}
-use Rattle.substitution.specs.Counting.{weight}
 use Rattle.copies.proofs.Rows.{child, after, child-split, none-after}
 
 -- The sums of the children from child j on.
@@ -39,22 +34,24 @@ module _ (v : ℕ → ℕ → ℕ) (o : ℕ) where
 
   -- Where no index below d counts otherwise, each record of a tree with so low a bound counts the same.
   pub low-summed : ((d i : ℕ) → i < d → v d i ≡ o) → (d : ℕ) (t : Term) → freeBound t ≤ d → summed v o d t ≡ o * size t
-  unfolding summed size freeBound
+  unfolding summed size
   low-summed h d (leaf number f) b = sym (mul-one o)
-  low-summed h d (leaf variable f) b = h d (f .a) (omega arith) ∙ sym (mul-one o)
-  low-summed h d (unary k f t) b = omega (arith, mul-one o, mul-add o 1 (size t), low-summed h (length (binds₁ k f) + d) t (omega arith))
+  low-summed h d (leaf variable f) b = h d (f .a) (variable-low d f b) ∙ sym (mul-one o)
+  low-summed h d (unary k f t) b = omega (arith, mul-one o, mul-add o 1 (size t), low-summed h (length (binds₁ k f) + d) t (child-low d k f t b))
   low-summed h d (binary k f t u) b =
-      omega (arith, mul-one o, mul-add o 1 (size t), mul-add o (1 + size t) (size u), low-summed h d t (omega arith), low-summed h d u (omega arith))
+      let (p, q) = both-low d k f t u b in
+      omega (arith, mul-one o, mul-add o 1 (size t), mul-add o (1 + size t) (size u), low-summed h d t p, low-summed h d u q)
   low-summed h d (ternary k f t s e) b =
+      let (_, p, q, r) = parts-low d k f t s e b in
       omega (
         arith,
         mul-one o,
         mul-add o 1 (size t),
         mul-add o (1 + size t) (size s),
         mul-add o (1 + size t + size s) (size e),
-        low-summed h d t (omega arith),
-        low-summed h (length (binds₃ k f) + d) s (omega arith),
-        low-summed h d e (omega arith),
+        low-summed h d t p,
+        low-summed h (length (binds₃ k f) + d) s q,
+        low-summed h d e r,
       )
 
 -- n is counted of each tree t that D says may be read, before its child j is counted.
@@ -85,55 +82,3 @@ module _ (D : Term → Type 0) (v : ℕ → ℕ → ℕ) (o d : ℕ) where
     pub adding-ends : (t : Term) → D t → childCount (rootKind t) ≤ j → n ≡ summed v o d t
     unfolding summedFrom
     adding-ends t q l = let e : n + 0 ≡ summed v o d t = rw (none-after t j l) at (a .all t q) in omega arith
-
--- No record counts more than b.
-pub summed-most : (v : ℕ → ℕ → ℕ) (o b : ℕ) → o ≤ b → ((d i : ℕ) → v d i ≤ b) → (d : ℕ) (t : Term) → summed v o d t ≤ b * size t
-unfolding summed size
-summed-most v o b p q d (leaf number f) = omega (arith, mul-one b)
-summed-most v o b p q d (leaf variable f) = omega (arith, mul-one b, q d (f .a))
-summed-most v o b p q d (unary k f t) = omega (arith, mul-one b, mul-add b 1 (size t), summed-most v o b p q (length (binds₁ k f) + d) t)
-summed-most v o b p q d (binary k f t u) =
-    omega (arith, mul-one b, mul-add b 1 (size t), mul-add b (1 + size t) (size u), summed-most v o b p q d t, summed-most v o b p q d u)
-summed-most v o b p q d (ternary k f t s e) =
-    omega (
-      arith,
-      mul-one b,
-      mul-add b 1 (size t),
-      mul-add b (1 + size t) (size s),
-      mul-add b (1 + size t + size s) (size e),
-      summed-most v o b p q d t,
-      summed-most v o b p q (length (binds₃ k f) + d) s,
-      summed-most v o b p q d e,
-    )
-
--- Where each variable counts more, so does the tree.
-pub summed-more : (v u : ℕ → ℕ → ℕ) (o : ℕ) → ((d i : ℕ) → v d i ≤ u d i) → (d : ℕ) (t : Term) → summed v o d t ≤ summed u o d t
-unfolding summed
-summed-more v u o h d (leaf number f) = omega arith
-summed-more v u o h d (leaf variable f) = h d (f .a)
-summed-more v u o h d (unary k f t) = omega (arith, summed-more v u o h (length (binds₁ k f) + d) t)
-summed-more v u o h d (binary k f t w) = omega (arith, summed-more v u o h d t, summed-more v u o h d w)
-summed-more v u o h d (ternary k f t s e) = omega (arith, summed-more v u o h d t, summed-more v u o h (length (binds₃ k f) + d) s, summed-more v u o h d e)
-
-pub weight-more : (m n k n′ k′ : ℕ) → n ≤ n′ → k ≤ k′ → (d i : ℕ) → weight m n k d i ≤ weight m n′ k′ d i
-weight-more m n k n′ k′ p q d i = picked-both (namesRemoved m d i) (picked-both (eqb i d) p q) (omega arith)
-  where
-    picked-both : (b : Bool) {x y x′ y′ : ℕ} → x ≤ x′ → y ≤ y′ → pick b x y ≤ pick b x′ y′
-    picked-both true p q = p
-    picked-both false p q = q
-
-pub weight-most : (m first second b : ℕ) → 1 ≤ b → first ≤ b → second ≤ b → (d i : ℕ) → weight m first second d i ≤ b
-weight-most m first second b o p q d i =
-    picked (λ n. n ≤ b) (namesRemoved m d i) (λ _. picked (λ n. n ≤ b) (eqb i d) (λ _. p) (λ _. q)) (λ _. o)
-
--- A change that makes of each variable a term of the size that is counted for it.
-abbrev pub Weighs : Change → (ℕ → ℕ → ℕ) → Type 0
-Weighs c v = (d : ℕ) (f : Fields) → size (c .onVariable d f) ≡ v d (f .a)
-
-pub changed-size : (c : Change) (v : ℕ → ℕ → ℕ) → Weighs c v → (d : ℕ) (t : Term) → size (changed c d t) ≡ summed v 1 d t
-unfolding changed size summed
-changed-size c v h d (leaf number f) = refl
-changed-size c v h d (leaf variable f) = h d f
-changed-size c v h d (unary k f t) = omega (arith, changed-size c v h (length (binds₁ k f) + d) t)
-changed-size c v h d (binary k f t u) = omega (arith, changed-size c v h d t, changed-size c v h d u)
-changed-size c v h d (ternary k f t s e) = omega (arith, changed-size c v h d t, changed-size c v h (length (binds₃ k f) + d) s, changed-size c v h d e)

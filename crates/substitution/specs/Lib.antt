@@ -2,4 +2,3 @@
 pub mod Arguments
 pub mod Making
 pub mod Replacing
-pub mod Counting

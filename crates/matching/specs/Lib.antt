@@ -1,0 +1,2 @@
+-- What a match becomes.
+pub mod Matches

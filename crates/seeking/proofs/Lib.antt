@@ -1,0 +1,3 @@
+-- What the search from a focus comes to.
+pub mod Searching
+pub mod SearchLoop

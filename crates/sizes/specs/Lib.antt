@@ -1,0 +1,2 @@
+-- What is counted before anything is copied.
+pub mod Counting
