@@ -1,130 +1,15 @@
-// The public calls, for programs of the first edition. None has a condition: any bytes get an answer, and the contract fixes every field of it.
+// The public calls, which the crates `check_call` and `run_call` make, and their entries for C. None has a condition.
 ghost use mathlib.Core.Path.{_≡_};
 ghost use Rattle.rules.specs.Editions.{firstEdition};
-ghost use Rattle.rules.specs.Format.{recordsOf};
-ghost use Rattle.rules.specs.Check.{typeNo, checkAnswer};
-ghost use Rattle.rules.specs.Meets.{Meets};
-ghost use Rattle.rules.specs.Run.{refused};
-ghost use Rattle.running.specs.Programs.{CanRunProgram};
-ghost use Rattle.engine.specs.Answers.{checkMeant, runMeant, Accepted, Ran};
-
-// The bytes that a run needs of its output and its work buffer.
-pub const OUTPUT: usize = 34308;
-
-pub const WORK: usize = 65536;
-
-// What check says of a program: passed, with number and place 0, the root's type and the number of records; or refused, with document 01's
-// number and place and the other fields 0.
-#[repr(C)]
-pub struct CheckAnswer {
-    pub number: u32,
-    pub place: u32,
-    pub root_type: u32,
-    pub records: u32,
-}
-
-// Checks a program of any bytes.
-pub fn check(program: &[u8]) -> CheckAnswer
-    ensures { λ r. ⌜ checkMeant r ≡ checkAnswer firstEdition (now (program .entry)) ⌝ }
-{
-    let verdict = checker::program_refusal(program, kinds::first_edition());
-    if verdict.number != 0 {
-        return CheckAnswer {
-            number: verdict.number as u32,
-            place: verdict.place as u32,
-            root_type: 0,
-            records: 0,
-        };
-    }
-    passed(program)
-}
-
-// The root's type of a program that is passed.
-fn root_type(program: &[u8]) -> u16
-    requires { ⌜ Meets firstEdition (now program) ⌝ }
-    ensures { λ r. ⌜ r ≡ typeNo (recordsOf (now (program .entry))) 1 ⌝ }
-{
-    let types = records::get16(program, 0);
-    let end = 4 + 6 * (types as usize);
-    let root = records::get(&program[end..], 0);
-    root.ty
-}
-
-// The answer for a program that is passed.
-fn passed(program: &[u8]) -> CheckAnswer
-    requires { ⌜ Meets firstEdition (now program) ⌝ }
-    ensures { λ a. ⌜ checkMeant a ≡ checkAnswer firstEdition (now (program .entry)) ⌝ }
-{
-    let root = root_type(program);
-    let count = records::get16(program, 2);
-    CheckAnswer {
-        number: 0,
-        place: 0,
-        root_type: root as u32,
-        records: count as u32,
-    }
-}
-
-// What a run answers. Accepted: number and place are 0, ending is 1 for a value, 2 for spent fuel and 3 for a full table; the steps made, the
-// root's type and the written length. Refused: document 01's number and place, and the other fields 0.
-#[repr(C)]
-pub struct RunAnswer {
-    pub number: u32,
-    pub place: u32,
-    pub ending: u32,
-    pub steps: u32,
-    pub root_type: u32,
-    pub written: u32,
-}
-
-// The answer of a refused run.
-fn refusing(number: u16, place: u16) -> RunAnswer
-    ensures { λ r. ⌜ runMeant r ≡ refused number place ⌝ }
-{
-    RunAnswer {
-        number: number as u32,
-        place: place as u32,
-        ending: 0,
-        steps: 0,
-        root_type: 0,
-        written: 0,
-    }
-}
-
-// The answer of an accepted run, which is made.
-fn accepted(program: &[u8], fuel: u32, output: &mut [u8], work: &mut [u8]) -> RunAnswer
-    requires { ⌜ CanRunProgram firstEdition (now program) (now output) (now work) ⌝ }
-    ensures { λ r. ⌜ Accepted (now (program .entry)) fuel (now (output .entry)) (now (output .exit)) r ⌝ }
-{
-    let root = root_type(program);
-    let done = running::run_program(program, fuel, output, work);
-    RunAnswer {
-        number: 0,
-        place: 0,
-        ending: done.ending,
-        steps: done.steps,
-        root_type: root as u32,
-        written: done.written,
-    }
-}
-
-// Runs a program of any bytes, with any fuel and buffers of any length.
-pub fn run(program: &[u8], fuel: u32, output: &mut [u8], work: &mut [u8]) -> RunAnswer
-    ensures { λ r. ⌜ Ran (now (program .entry)) fuel (now (output .entry)) (now (work .entry)) r (now (output .exit)) (now (work .exit)) ⌝ }
-{
-    if output.len() < OUTPUT {
-        return refusing(refusals::OUTPUT_SHORT, 0);
-    }
-    if work.len() < WORK {
-        return refusing(refusals::WORK_SHORT, 0);
-    }
-    let verdict = checker::program_refusal(program, kinds::first_edition());
-    let number = verdict.number;
-    if number != 0 {
-        return refusing(number, verdict.place);
-    }
-    accepted(program, fuel, output, &mut work[..WORK])
-}
+ghost use Rattle.rules.specs.Check.{checkAnswer};
+ghost use Rattle.check_call.specs.Answers.{checkMeant};
+ghost use Rattle.run_call.specs.Answers.{Ran};
+pub use check_call::CheckAnswer;
+pub use check_call::check;
+pub use run_call::OUTPUT;
+pub use run_call::RunAnswer;
+pub use run_call::WORK;
+pub use run_call::run;
 
 // The calls for C: each slice is a pointer and a length.
 #[no_mangle]

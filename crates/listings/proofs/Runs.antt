@@ -24,10 +24,9 @@ use Rattle.rules.proofs.Written.{back, passed-table}
 use Rattle.rules.proofs.Whole.{last-typed, last-small}
 use Rattle.records.specs.View.{recordsIn}
 use Rattle.records.proofs.Program.{program-records-slice}
-use Rattle.engine.specs.declared.RunAnswer.{RunAnswer}
-use Rattle.engine.specs.Answers.{runMeant, Ran}
-use Rattle.engine.specs.Accepting.{Accepted}
-use Rattle.engine.proofs.Answering.{buffers-long}
+use Rattle.run_call.specs.declared.RunAnswer.{RunAnswer}
+use Rattle.run_call.specs.Answers.{runMeant, Accepted, Ran}
+use Rattle.run_call.proofs.Answering.{buffers-long}
 use Rattle.listing_text.specs.Text.{refusedText, acceptedText}
 use Rattle.listings.specs.Listing.{answerText, runText}
 

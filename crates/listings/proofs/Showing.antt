@@ -9,8 +9,8 @@ use borrow.Author.Tests.{lt-ltb, le-ltb}
 use Rattle.rules.specs.Format.{u16, u32}
 use Rattle.rules.specs.Refusals.{programShort}
 use Rattle.records.specs.View.{recordsIn}
-use Rattle.engine.specs.declared.RunAnswer.{RunAnswer}
-use Rattle.engine.specs.Answers.{Ran}
+use Rattle.run_call.specs.declared.RunAnswer.{RunAnswer}
+use Rattle.run_call.specs.Answers.{Ran}
 use Rattle.listing_text.specs.Text.{refusedText, acceptedText}
 use Rattle.listing_text.specs.Buffers.{Listable, Prints}
 use Rattle.listings.specs.Listing.{runText, listingOf}

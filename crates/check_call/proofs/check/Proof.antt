@@ -1,8 +1,8 @@
--- `engine::check` meets its contract. Assumes nothing.
-use Rattle.engine.proofs.Checks.{checking}
+-- `check_call::check` meets its contract. Assumes nothing.
+use Rattle.check_call.proofs.Checks.{checking}
 use borrow.Author.Needs.{needs}
-use Rattle.engine.proofs.check.Statement.{statement}
-use Rattle.engine.proofs.check.Tie as tie
+use Rattle.check_call.proofs.check.Statement.{statement}
+use Rattle.check_call.proofs.check.Tie as tie
 
 pub check-spec : {M : Type 1} → statement M
 check-spec =

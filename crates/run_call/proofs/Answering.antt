@@ -21,8 +21,8 @@ use Rattle.refusals.specs.declared.Verdict.{Verdict}
 use Rattle.refusals.specs.Tells.{refusalBy, shown, Tells}
 use Rattle.refusals.proofs.Laws.{no-number}
 use Rattle.running.specs.Programs.{CanRunProgram}
-use Rattle.engine.specs.declared.RunAnswer.{RunAnswer}
-use Rattle.engine.specs.Answers.{runMeant, Accepted, Ran}
+use Rattle.run_call.specs.declared.RunAnswer.{RunAnswer}
+use Rattle.run_call.specs.Answers.{runMeant, Accepted, Ran}
 
 -- A verdict with a number is that of a refusal.
 some-number : (f : Verdict) (o : Option Refusal) → Tells f o → (f .number ≡ 0 → ⊥) → o ≡ some (refusalBy (f .number) (f .place))

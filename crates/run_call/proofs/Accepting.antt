@@ -14,7 +14,7 @@ use Rattle.rules.proofs.Tree.{tree-type}
 use Rattle.rules.proofs.Whole.{last-type}
 use Rattle.running.specs.declared.Completion.{Completion}
 use Rattle.running.specs.Programs.{CanRunProgram, RunsProgram}
-use Rattle.engine.specs.Answers.{Accepted}
+use Rattle.run_call.specs.Answers.{Accepted}
 
 module _ (p out work : List ℕ) (h : CanRunProgram firstEdition p out work) where
   pub accept-meets : Meets firstEdition p

@@ -1,8 +1,8 @@
--- `engine::run` meets its contract: the refusals in their order, or the accepted run. Assumes nothing.
-use Rattle.engine.proofs.Answering.{answering}
+-- `run_call::run` meets its contract: the refusals in their order, or the accepted run. Assumes nothing.
+use Rattle.run_call.proofs.Answering.{answering}
 use borrow.Author.Needs.{needs}
-use Rattle.engine.proofs.run.Statement.{statement}
-use Rattle.engine.proofs.run.Tie as tie
+use Rattle.run_call.proofs.run.Statement.{statement}
+use Rattle.run_call.proofs.run.Tie as tie
 
 pub run-spec : {M : Type 1} → statement M
 run-spec =

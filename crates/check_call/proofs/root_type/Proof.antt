@@ -1,8 +1,8 @@
--- `engine::root_type` meets its contract. Assumes nothing.
-use Rattle.engine.proofs.Checks.{checking}
+-- `check_call::root_type` meets its contract. Assumes nothing.
+use Rattle.check_call.proofs.Checks.{checking}
 use borrow.Author.Needs.{needs}
-use Rattle.engine.proofs.root_type.Statement.{statement}
-use Rattle.engine.proofs.root_type.Tie as tie
+use Rattle.check_call.proofs.root_type.Statement.{statement}
+use Rattle.check_call.proofs.root_type.Tie as tie
 
 pub root-type-spec : {M : Type 1} → statement M
 root-type-spec =

@@ -1,8 +1,8 @@
--- `engine::accepted` meets its contract. Assumes nothing.
-use Rattle.engine.proofs.Accepting.{accepting}
+-- `run_call::accepted` meets its contract. Assumes nothing.
+use Rattle.run_call.proofs.Accepting.{accepting}
 use borrow.Author.Needs.{needs}
-use Rattle.engine.proofs.accepted.Statement.{statement}
-use Rattle.engine.proofs.accepted.Tie as tie
+use Rattle.run_call.proofs.accepted.Statement.{statement}
+use Rattle.run_call.proofs.accepted.Tie as tie
 
 pub accepted-spec : {M : Type 1} → statement M
 accepted-spec =

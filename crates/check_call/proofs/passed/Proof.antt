@@ -1,8 +1,8 @@
--- `engine::passed` meets its contract. Assumes nothing.
-use Rattle.engine.proofs.Checks.{checking}
+-- `check_call::passed` meets its contract. Assumes nothing.
+use Rattle.check_call.proofs.Checks.{checking}
 use borrow.Author.Needs.{needs}
-use Rattle.engine.proofs.passed.Statement.{statement}
-use Rattle.engine.proofs.passed.Tie as tie
+use Rattle.check_call.proofs.passed.Statement.{statement}
+use Rattle.check_call.proofs.passed.Tie as tie
 
 pub passed-spec : {M : Type 1} → statement M
 passed-spec =

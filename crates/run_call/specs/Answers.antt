@@ -1,4 +1,4 @@
--- The answers of the public calls as document 01's, field by field, and what a run ensures.
+-- The answer of a run as document 01's, field by field, and what a run ensures.
 use Prim.Native.Nat.{ℕ}
 use mathlib.Core.List.{List}
 use mathlib.Core.Option.{none, some}
@@ -7,14 +7,9 @@ use lib.ListN.{length, drop}
 use Rattle.rules.specs.Editions.{firstEdition}
 use Rattle.rules.specs.Format.{tableOf}
 use Rattle.rules.specs.Refusals.{Refusal}
-use Rattle.rules.specs.Check.{CheckAnswer as MeantCheckAnswer}
 use Rattle.rules.specs.Run.{RunAnswer as MeantRunAnswer, programCourse, output, writtenOver, workNeeded, accepted, runRefusal, runAnswer, runOutput}
 use Rattle.rules.specs.WholeRun.{Demand3}
-use Rattle.engine.specs.declared.CheckAnswer.{CheckAnswer}
-use Rattle.engine.specs.declared.RunAnswer.{RunAnswer}
-
-abbrev pub checkMeant : CheckAnswer → MeantCheckAnswer
-checkMeant r = record { number = r .number; place = r .place; rootType = r .«root_type»; records = r .records }
+use Rattle.run_call.specs.declared.RunAnswer.{RunAnswer}
 
 abbrev pub runMeant : RunAnswer → MeantRunAnswer
 runMeant r = record { number = r .number; place = r .place; ending = r .ending; steps = r .steps; rootType = r .«root_type»; written = r .written }

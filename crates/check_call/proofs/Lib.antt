@@ -1,0 +1,2 @@
+-- The laws of check's answer.
+pub mod Checks

@@ -1,0 +1,2 @@
+-- What the answer of check means.
+pub mod Answers

@@ -1,2 +1,0 @@
--- What the answers of the public calls mean.
-pub mod Answers

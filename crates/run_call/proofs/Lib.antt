@@ -1,0 +1,3 @@
+-- The laws of a run's answer.
+pub mod Accepting
+pub mod Answering

@@ -1,0 +1,2 @@
+-- What the answer of a run means, and what a run ensures.
+pub mod Answers
