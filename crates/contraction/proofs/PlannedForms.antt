@@ -7,12 +7,13 @@ use Rattle.rules.specs.Terms.{Term, size}
 use Rattle.rules.specs.Indices.{replaced, gaveWay}
 use Rattle.rules.specs.Format.{Record}
 use Rattle.terms.specs.Preorder.{At}
+use Rattle.terms.specs.Measuring.{Low}
 use Rattle.substitution.specs.declared.arguments.Argument.{Argument}
 use Rattle.substitution.specs.declared.arguments.Arguments.{Arguments}
 use Rattle.copies.specs.Copying.{Outside}
 use Rattle.contraction.specs.declared.plans.Plan.{Plan}
 use Rattle.contraction.specs.declared.plans.Plan.the-variants.{Tree, Body, Made}
-use Rattle.contraction.specs.Plans.{Low, Stands, AllStand, Clear, Planned, itself, from-body, anew}
+use Rattle.contraction.specs.Plans.{Stands, AllStand, Clear, Planned, itself, from-body, anew}
 
 module _ (rs : List Record) (lo hi end n : ℕ) (u : Term) where
   pub record Itself (at m : ℕ) : Type 0 where
@@ -25,7 +26,7 @@ module _ (rs : List Record) (lo hi end n : ℕ) (u : Term) where
     pub terms : List Term
     pub there : At rs at body
     pub outside : Outside lo hi at (size body)
-    pub low : Low body
+    pub low : Low 4096 body
     pub given : AllStand rs lo hi g terms
     pub counted : gaveWay (length terms) 0 body ≡ n
     pub is : replaced terms body ≡ u

@@ -20,13 +20,14 @@ use Rattle.rules.specs.Format.{Record}
 use Rattle.rules.proofs.FreeBounds.{typed-bound}
 use Rattle.rules.proofs.RuleKinds.{match-range, success-number}
 use Rattle.terms.specs.Preorder.{HasTree, Skips}
-use Rattle.terms.specs.Measuring.{KindIs}
+use Rattle.terms.specs.Children.{kids}
+use Rattle.terms.specs.Measuring.{Low, KindIs}
 use Rattle.terms.proofs.Trees.{at-first}
+use Rattle.terms.proofs.Low.{low-kids}
 use Rattle.contraction.specs.declared.plans.Plan.{Plan}
 use Rattle.contraction.specs.declared.plans.Plan.the-variants.{Tree}
-use Rattle.contraction.specs.Plans.{Low, Planned, itself}
+use Rattle.contraction.specs.Plans.{Planned, itself}
 use Rattle.matching.specs.Matches.{OpenMatch, HasMatch, TellsMatchRule, CanPlanMatch, PlansMatch, MatchRedex, taken, isSome, CodeAt, HasCode, TellsMatch, CanSucceed, SuccessAt, PlansSuccess}
-use Rattle.contraction.proofs.Places.{low-of-three}
 
 -- What a match becomes, by what it takes: its success, or its failure.
 data Becomes (k : Match) (s e : Term) : Option (List Term) → StepRule → ℕ → Term → Type 0 where
@@ -53,10 +54,12 @@ module _ (types : Table) (rs : List Record) (p hi : ℕ) where
     redex-of = record { kind = h .kind; fields = h .fields; fieldsOfQuote = quoted-of .fieldsOfQuote; code = quoted-of .code }
 
     -- "10: index not below its binders": its children are low.
-    children-low : Low (h .code) × Low (h .success) × Low (h .failure)
+    children-low : Low 4096 (h .code) × Low 4096 (h .success) × Low 4096 (h .failure)
+    unfolding kids
     children-low =
         let t = ternary (match (h .kind)) (h .fields) (h .code) (h .success) (h .failure) in
-        low-of-three (match (h .kind)) (h .fields) (h .code) (h .success) (h .failure) (omega (arith, typed-bound types (h .binders) (h .level) t (h .typed), h .few))
+        let (p, (q, (r, _))) = low-kids 4096 t (omega (arith, typed-bound types (h .binders) (h .level) t (h .typed), h .few)) in
+        (p, q, r)
 
     code-held : CodeAt types rs p lo redex-of
     unfolding Typed

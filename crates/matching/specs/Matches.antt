@@ -16,10 +16,11 @@ use Rattle.rules.specs.Matching.{matched}
 use Rattle.rules.specs.Contractions.{StepRule, ruleNumber, Contraction}
 use Rattle.rules.specs.Format.{Record, noRecord}
 use Rattle.terms.specs.Preorder.{At}
+use Rattle.terms.specs.Measuring.{Low}
 use Rattle.substitution.specs.declared.arguments.Argument.{Argument}
 use Rattle.substitution.specs.declared.arguments.Argument.the-variants.{Opened}
 use Rattle.contraction.specs.declared.plans.Plan.{Plan}
-use Rattle.contraction.specs.Plans.{Low, Planned}
+use Rattle.contraction.specs.Plans.{Planned}
 
 -- A match is open at p: the record there has its kind and its fields, and its code stands behind that, before lo. Its success stands at hi, and its
 -- failure after that and before `end`. It is typed under few binders, it is rewritten to u, and n variables give way.
@@ -84,7 +85,7 @@ pub record CodeAt (types : Table) (rs : List Record) (p lo : ℕ) (m : MatchRede
   pub good : Holds (formed types (ternary₃ (match (m .kind))) (m .fields))
   pub there : At rs (p + 1) (unary quote (m .fieldsOfQuote) (m .code))
   pub before : p + 1 + size (unary quote (m .fieldsOfQuote) (m .code)) ≤ lo
-  pub low : Low (unary quote (m .fieldsOfQuote) (m .code))
+  pub low : Low 4096 (unary quote (m .fieldsOfQuote) (m .code))
 
 -- There is such a match; b tells whether it matches its code.
 pub record HasCode (types : Table) (rs : List Record) (p : ℕ) : Type 0 where
@@ -101,7 +102,7 @@ pub record SuccessAt (types : Table) (rs : List Record) (p lo hi end : ℕ) (m :
   pub matches : taken types m ≡ some ts
   pub there : At rs hi success
   pub before : hi + size success ≤ end
-  pub low : Low success
+  pub low : Low 4096 success
 
 -- There is such a match; the plan is right of the success of every one, with its variables replaced.
 pub record CanSucceed (types : Table) (rs : List Record) (p hi : ℕ) : Type 0 where

@@ -6,6 +6,7 @@ pub mod Trees
 pub mod Storing
 pub mod Readings
 pub mod Joined
+pub mod Low
 pub mod Moving
 pub mod Numbered
 pub mod Chains

@@ -10,9 +10,7 @@ use lib.Seq.{getD-set-same}
 use mir.Syntax.{w64}
 use mir.Val.{Fits}
 use Rattle.rules.specs.Lists.{All}
-use Rattle.rules.specs.Kinds.{unary₁, ternary₃}
-use Rattle.rules.specs.Terms.{Term, leaf, unary, binary, ternary, size}
-use Rattle.rules.specs.FreeBounds.{freeBound}
+use Rattle.rules.specs.Terms.{Term, size}
 use Rattle.rules.specs.Format.{Record, noRecord, recordNo}
 use Rattle.rules.specs.Links.{nextOf, treeOf}
 use Rattle.rules.proofs.Laid.{size-some}
@@ -21,23 +19,15 @@ use Rattle.records.proofs.Records.{records-length}
 use Rattle.records.specs.Places.{Within}
 use Rattle.terms.specs.Preorder.{head, preorder, puts, Stored}
 use Rattle.terms.specs.Children.{kids, sizes, preorders}
-use Rattle.terms.specs.Measuring.{RootedAt, HasRooted, MarksRoot}
-use Rattle.terms.specs.Loads.{WellLinked, Measurable, CanLoad, CanPutRoot, PutsRoot}
+use Rattle.terms.specs.Measuring.{Low, RootedAt, HasRooted, MarksRoot}
+use Rattle.terms.specs.Loads.{WellLinked, CanLoad, CanPutRoot, PutsRoot}
 use Rattle.terms.proofs.Puts.{length-puts, puts-append, puts-other, rewritten}
 use Rattle.terms.proofs.There.{there-put}
 use Rattle.terms.proofs.Trees.{length-preorder, length-preorders, preorder-kids}
 use Rattle.terms.proofs.Storing.{stored-end}
 use Rattle.terms.proofs.Children.{kids-sizes}
-use Rattle.terms.proofs.Joined.{binds-few, first-over, second-over}
+use Rattle.terms.proofs.Low.{low-kids}
 use Rattle.terms.proofs.Chains.{Chain, tree-kind, tree-fields, tree-chain}
-
--- The children of a tree whose measures fit have measures that fit.
-measurable-kids : (t : Term) → Measurable t → All Measurable (kids t)
-unfolding freeBound size kids
-measurable-kids (leaf k f) h = tt
-measurable-kids (unary k f t) h = (omega (arith, first-over f (unary₁ k), binds-few (unary₁ k) 0), tt)
-measurable-kids (binary k f t u) h = (omega arith, (omega arith, tt))
-measurable-kids (ternary k f t s e) h = (omega arith, (omega (arith, second-over f (ternary₃ k), binds-few (ternary₃ k) 1), (omega arith, tt)))
 
 -- Of the loop that begins at `from` of rs to write the children of record n, before the tree of `child` is written at `at` of rs′: the trees of
 -- the chain from there on are left, and once they are written all are.
@@ -47,7 +37,7 @@ pub record Loading (program : List Record) (n left : ℕ) (rs : List Record) (fr
   pub written : puts rs′ at (preorders trees) ≡ puts rs from (preorders (kids (treeOf left program n)))
   pub ends : at + sizes trees ≡ from + sizes (kids (treeOf left program n))
   pub room : from + sizes (kids (treeOf left program n)) ≤ length rs
-  pub small : All Measurable trees
+  pub small : All (Low 32767) trees
   pub linked : WellLinked program
   pub enough : length program < n + left
 
@@ -73,7 +63,7 @@ module _ (program : List Record) (n left : ℕ) (rs : List Record) (dst : ℕ) (
           written = refl;
           ends = refl;
           room = omega (arith, h .room, kids-sizes t, ap length (p .written) ∙ length-set rs dst (recordNo program n));
-          small = measurable-kids t (h .small);
+          small = low-kids 32767 t (h .small);
           linked = h .linked;
           enough = h .enough;
         }
@@ -133,7 +123,7 @@ module _ (program : List Record) (n left : ℕ) (rs : List Record) (from : ℕ) 
   unfolding Chain sizes
   load-child = go (l .trees) (l .chain) (l .ends) (l .small)
     where
-      go : (ts : List Term) → Chain program (left - 1) n child ts → at + sizes ts ≡ from + sizes (kids (treeOf left program n)) → All Measurable ts
+      go : (ts : List Term) → Chain program (left - 1) n child ts → at + sizes ts ≡ from + sizes (kids (treeOf left program n)) → All (Low 32767) ts
           → CanLoad program child (left - 1) rs′ at
       go [] c e m = absurd (omega arith)
       go (t ∷ ts) (a, b, q, _) e (m, _) = record {
@@ -141,7 +131,7 @@ module _ (program : List Record) (n left : ℕ) (rs : List Record) (from : ℕ) 
         within = record { some = z; most = b };
         enough = omega (arith, l .enough);
         room = omega (arith, l .room, ap size q, same-length);
-        small = subst Measurable q m;
+        small = subst (Low 32767) q m;
       }
 
   pub load-reads : Within program child
@@ -156,7 +146,7 @@ module _ (program : List Record) (n left : ℕ) (rs : List Record) (from : ℕ) 
     load-goes-on next e = go (l .trees) (l .chain) (l .written) (l .ends) (l .small)
       where
         go : (ts : List Term) → Chain program (left - 1) n child ts → puts rs′ at (preorders ts) ≡ puts rs from (preorders (kids (treeOf left program n)))
-            → at + sizes ts ≡ from + sizes (kids (treeOf left program n)) → All Measurable ts → Loading program n left rs from rs″ at′ next
+            → at + sizes ts ≡ from + sizes (kids (treeOf left program n)) → All (Low 32767) ts → Loading program n left rs from rs″ at′ next
         go [] c w o m = absurd (omega arith)
         go (t ∷ ts) (a, b, q, c) w o (_, m) =
             let i : next ≡ nextOf program child = e ∙ l .linked .links .next child z b in

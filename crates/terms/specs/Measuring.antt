@@ -1,5 +1,5 @@
 -- What is read of a tree's measures, and how they are made of a root and its children's.
-use Prim.Native.Nat.{ℕ, zero, suc, _+_, _-_, _*_, _<_, max}
+use Prim.Native.Nat.{ℕ, zero, suc, _+_, _-_, _*_, _≤_, _<_, max}
 use mathlib.Core.List.{List}
 use mathlib.Core.Bool.{Bool, _&&_}
 use mathlib.Core.Path.{_≡_}
@@ -14,6 +14,11 @@ use Rattle.rules.specs.Format.{Record, noRecord}
 use Rattle.terms.specs.Children.{kids, preorders}
 use Rattle.terms.specs.declared.measuring.Measure.{Measure}
 use Rattle.terms.specs.Preorder.{head, There, At}
+
+-- The free bound of t and twice its records are at most n together. A root binds two variables at most, so that it is so of each tree inside; where n
+-- is below 32,768 their measures fit 16 bits.
+abbrev pub Low : ℕ → Term → Type 0
+Low n t = freeBound t + 2 * size t ≤ n
 
 -- k is the kind of the record at i.
 pub record KindIs (rs : List Record) (i k : ℕ) : Type 0 where
