@@ -1,7 +1,7 @@
 -- `fits`: a law for each thing that its body asks. `measuring` for search.
 use Prim.Native.Nat.{ℕ, _-_}
 use native.Mathlib.Omega.{arith}
-use mathlib.Core.Bool.{Bool}
+use mathlib.Core.Bool.{Bool, true}
 use mathlib.Core.List.{List}
 use mathlib.Core.Path.{_≡_, ap, _∙_}
 use lib.Dec.{leb}
@@ -46,7 +46,7 @@ module _ (rs : List Record) (plan : Plan) (room : ℕ) where
     pub anew-asks : (lo hi end n : ℕ) (u : Term) → Planned rs lo hi end plan n u → HasArgument rs g
     anew-asks lo hi end n u h = let v = planned-anew g e h .given in record { lo = lo; hi = hi; term = u; stands = v .stands; small = omega (arith, v .low) }
 
-    pub anew-fits : (m : ℕ) → Measures rs g m → TellsFits rs plan room (leb m room)
-    anew-fits m k = record { is = λ lo hi end n u h. ap (λ x. leb x room) (k .is lo hi u (planned-anew g e h .given .stands)) }
+    pub anew-fits : (m : ℕ) → Measures rs g true m → TellsFits rs plan room (leb m room)
+    anew-fits m k = record { is = λ lo hi end n u h. ap (λ x. leb x room) (k .is tt lo hi u (planned-anew g e h .given .stands)) }
 
 pub ruleset measuring = (tree-there, tree-up, tree-fits, body-asks, body-fits, anew-asks, anew-fits)

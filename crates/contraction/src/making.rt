@@ -18,7 +18,7 @@ pub fn fits(w: &[u8], plan: Plan, room: usize) -> bool
     match plan {
         Plan::Tree(at, _) => terms::skip(w, at) - at <= room,
         Plan::Body(at, g) => sizes::replaced_fits(w, at, g, room),
-        Plan::Made(g) => sizes::argument_size(w, g) <= room,
+        Plan::Made(g) => sizes::argument_size(w, g, true) <= room,
     }
 }
 

@@ -1,4 +1,4 @@
--- `argument_size`: the size of what an argument stands for. `measuring` for search.
+-- `argument_size`: the size of what an argument stands for, or a bound of it. `measuring` for search.
 use Prim.Native.Nat.{ℕ, _+_, _*_, _≤_}
 use native.Mathlib.Omega.{arith}
 use mathlib.Core.List.{List}
@@ -13,9 +13,9 @@ use Rattle.rules.specs.Format.{Record}
 use Rattle.terms.specs.Preorder.{HasTree}
 use Rattle.substitution.specs.declared.arguments.Argument.{Argument}
 use Rattle.substitution.specs.declared.arguments.Argument.the-variants.{Tree, Quote, Opened}
-use Rattle.substitution.specs.Arguments.{placeOf, described}
+use Rattle.substitution.specs.Arguments.{placeOf, described, StandsFor}
 use Rattle.copies.specs.Copying.{TreeSize}
-use Rattle.sizes.specs.Counting.{weight, sizeAfter, CanCount, CountsSize, HasArgument, Measures, Bounds}
+use Rattle.sizes.specs.Counting.{weight, sizeAfter, CanCount, CountsSize, HasArgument, Measures}
 use Rattle.sizes.proofs.Weights.{Weighs, changed-size, summed-most, weight-most}
 use Rattle.sizes.proofs.SizesAfter.{after-most}
 use Rattle.copies.proofs.WrappedCopies.{names-one}
@@ -70,50 +70,43 @@ module _ (rs : List Record) (g : Argument) (h : HasArgument rs g) where
   opened-fits at ty a b n e w =
       omega (arith, w .is (h .stands .tree) (rw e at (h .stands .there)), after-most 1 2 2 0 (h .stands .tree) (omega arith) (omega arith), h .small)
 
--- Its size.
-module _ (rs : List Record) (g : Argument) (n : ℕ) where
-  pub tree-measured : (at : ℕ) → g ≡ Tree at → TreeSize rs at n → Measures rs g n
-  unfolding placeOf described
-  tree-measured at e w = rw e (record { is = λ lo hi t s. w .is (s .tree) (s .there) ∙ sym (ap size (s .is)) })
+  -- Its size measures it, whether that is asked for exactly or not.
+  size-measures : (n : ℕ) (b : Bool) → ((lo hi : ℕ) (t : Term) → StandsFor rs lo hi g t → n ≡ size t) → Measures rs g b n
+  size-measures n b q = record {
+    most = λ lo hi t s. omega (arith, q lo hi t s);
+    is = λ _. q;
+    small = omega (arith, q (h .lo) (h .hi) (h .term) (h .stands), ap size (h .stands .is), described-most g (h .stands .tree), h .small);
+  }
 
-  pub quote-measured : (at ty : ℕ) → g ≡ Quote at ty → TreeSize rs at n → Measures rs g (1 + n)
-  unfolding placeOf described size
-  quote-measured at ty e w = rw e (record { is = λ lo hi t s. omega (arith, w .is (s .tree) (s .there), ap size (s .is)) })
+  module _ (n : ℕ) (b : Bool) where
+    pub tree-measured : (at : ℕ) → g ≡ Tree at → TreeSize rs at n → Measures rs g b n
+    unfolding placeOf described
+    tree-measured at e w = size-measures n b (rw e (λ lo hi t s. w .is (s .tree) (s .there) ∙ sym (ap size (s .is))))
 
-  pub opened-measured : (at ty a b : ℕ) → g ≡ Opened at ty a b → CountsSize rs at 0 1 2 2 n → Measures rs g (2 + n)
-  unfolding placeOf described size wrapped sizeAfter
-  opened-measured at ty a b e w = rw e (record {
-    is = λ lo hi t s. omega (arith, w .is (s .tree) (s .there), changed-size (wrapping a) (weight 1 2 2) (wrapping-weighs a) 0 (s .tree), ap size (s .is));
-  })
+    pub quote-measured : (at ty : ℕ) → g ≡ Quote at ty → TreeSize rs at n → Measures rs g b (1 + n)
+    unfolding placeOf described size
+    quote-measured at ty e w = size-measures (1 + n) b (rw e (λ lo hi t s. omega (arith, w .is (s .tree) (s .there), ap size (s .is))))
 
-  -- And a bound of it, by the size n of its tree.
-  pub tree-bounds : HasArgument rs g → (at : ℕ) → g ≡ Tree at → TreeSize rs at n → Bounds rs g n
-  unfolding placeOf described
-  tree-bounds h at e w = rw e (record {
-    most = λ lo hi t s. omega (arith, w .is (s .tree) (s .there), ap size (s .is));
-    small = omega (arith, w .is (h .stands .tree) (rw e at (h .stands .there)), h .small);
-  })
+    pub opened-measured : (at ty a c : ℕ) → g ≡ Opened at ty a c → CountsSize rs at 0 1 2 2 n → Measures rs g b (2 + n)
+    unfolding placeOf described size wrapped sizeAfter
+    opened-measured at ty a c e w = size-measures (2 + n) b (rw e (λ lo hi t s.
+        omega (arith, w .is (s .tree) (s .there), changed-size (wrapping a) (weight 1 2 2) (wrapping-weighs a) 0 (s .tree), ap size (s .is))))
 
-  pub quote-bounds : HasArgument rs g → (at ty : ℕ) → g ≡ Quote at ty → TreeSize rs at n → Bounds rs g (1 + n)
-  unfolding placeOf described size
-  quote-bounds h at ty e w = rw e (record {
-    most = λ lo hi t s. omega (arith, w .is (s .tree) (s .there), ap size (s .is));
-    small = omega (arith, w .is (h .stands .tree) (rw e at (h .stands .there)), h .small);
-  })
+    -- So does a bound of it, by the size n of its tree, where it is not.
+    pub opened-bounded : b ≡ false → (at ty a c : ℕ) → g ≡ Opened at ty a c → TreeSize rs at n → Measures rs g b (2 + 2 * n)
+    unfolding placeOf
+    opened-bounded z at ty a c e w = rw (z, e) (record {
+      most = λ lo hi t s. omega (arith, w .is (s .tree) (s .there), ap size (s .is), described-most (Opened at ty a c) (s .tree));
+      is = λ y. absurd y;
+      small = omega (arith, w .is (h .stands .tree) (rw e at (h .stands .there)), h .small);
+    })
 
-  pub opened-bounds : HasArgument rs g → (at ty a b : ℕ) → g ≡ Opened at ty a b → TreeSize rs at n → Bounds rs g (2 + 2 * n)
+  pub doubled-fits : (at ty a b n : ℕ) → g ≡ Opened at ty a b → TreeSize rs at n → Fits w64 (2 * n)
   unfolding placeOf
-  opened-bounds h at ty a b e w = rw e (record {
-    most = λ lo hi t s. omega (arith, w .is (s .tree) (s .there), ap size (s .is), described-most (Opened at ty a b) (s .tree));
-    small = omega (arith, w .is (h .stands .tree) (rw e at (h .stands .there)), h .small);
-  })
+  doubled-fits at ty a b n e w = omega (arith, w .is (h .stands .tree) (rw e at (h .stands .there)), h .small)
 
-  pub doubled-fits : HasArgument rs g → (at ty a b : ℕ) → g ≡ Opened at ty a b → TreeSize rs at n → Fits w64 (2 * n)
+  pub doubled-two-fits : (at ty a b n : ℕ) → g ≡ Opened at ty a b → TreeSize rs at n → Fits w64 (2 + 2 * n)
   unfolding placeOf
-  doubled-fits h at ty a b e w = omega (arith, w .is (h .stands .tree) (rw e at (h .stands .there)), h .small)
+  doubled-two-fits at ty a b n e w = omega (arith, w .is (h .stands .tree) (rw e at (h .stands .there)), h .small)
 
-  pub doubled-two-fits : HasArgument rs g → (at ty a b : ℕ) → g ≡ Opened at ty a b → TreeSize rs at n → Fits w64 (2 + 2 * n)
-  unfolding placeOf
-  doubled-two-fits h at ty a b e w = omega (arith, w .is (h .stands .tree) (rw e at (h .stands .there)), h .small)
-
-pub ruleset measuring = (tree-tree, quote-tree, opened-tree, opened-counts, quote-fits, opened-fits, tree-measured, quote-measured, opened-measured, tree-bounds, quote-bounds, opened-bounds, doubled-fits, doubled-two-fits)
+pub ruleset measuring = (tree-tree, quote-tree, opened-tree, opened-counts, quote-fits, opened-fits, tree-measured, quote-measured, opened-measured, opened-bounded, doubled-fits, doubled-two-fits)

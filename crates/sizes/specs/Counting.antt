@@ -40,13 +40,11 @@ pub record HasArgument (rs : List Record) (g : Argument) : Type 0 where
   pub stands : StandsFor rs lo hi g term
   pub small : size (stands .tree) < 32767
 
--- n is the size of the term that the argument stands for.
-pub record Measures (rs : List Record) (g : Argument) (n : ℕ) : Type 0 where
-  pub is : (lo hi : ℕ) (t : Term) → StandsFor rs lo hi g t → n ≡ size t
-
--- n is not below it, and no more than a copy can have.
-pub record Bounds (rs : List Record) (g : Argument) (n : ℕ) : Type 0 where
+-- n is not below the size of the term that the argument stands for, and no more than a copy can have. Where it is asked for exactly, n is that
+-- size.
+pub record Measures (rs : List Record) (g : Argument) (exactly : Bool) (n : ℕ) : Type 0 where
   pub most : (lo hi : ℕ) (t : Term) → StandsFor rs lo hi g t → size t ≤ n
+  pub is : T exactly → (lo hi : ℕ) (t : Term) → StandsFor rs lo hi g t → n ≡ size t
   pub small : n ≤ 65535
 
 -- A tree stands at `at`, and the arguments stand for terms; all trees are small.
@@ -60,14 +58,9 @@ pub record CanFit (rs : List Record) (at : ℕ) (g : Arguments) : Type 0 where
   pub few : size tree < 32767
   pub small : (j : ℕ) (z : Term) (l : j < g .count) → size (stand .each j z l .tree) < 32767
 
--- n is the size of what stands for index 1, or 0 where one variable is replaced.
-pub record MeasuresSecond (rs : List Record) (g : Arguments) (n : ℕ) : Type 0 where
-  pub there : 1 < g .count → Measures rs (g .second) n
-  pub none : g .count ≤ 1 → n ≡ 0
-
--- n bounds it so, or is 0.
-pub record BoundsSecond (rs : List Record) (g : Arguments) (n : ℕ) : Type 0 where
-  pub there : 1 < g .count → Bounds rs (g .second) n
+-- n measures so what stands for index 1, or is 0 where one variable is replaced.
+pub record MeasuresSecond (rs : List Record) (g : Arguments) (exactly : Bool) (n : ℕ) : Type 0 where
+  pub there : 1 < g .count → Measures rs (g .second) exactly n
   pub none : g .count ≤ 1 → n ≡ 0
 
 -- b tells whether the tree at `at`, with its variables replaced, has at most `room` records.

@@ -9,7 +9,7 @@ ghost use mathlib.Core.Path.{_≡_};
 ghost use Prim.Native.Nat.{max};
 ghost use Rattle.rules.specs.Lists.{pick};
 ghost use Rattle.records.specs.View.{recordsIn};
-ghost use Rattle.sizes.specs.Counting.{CanCount, CountsSize, HasArgument, Measures, Bounds, CanFit, MeasuresSecond, BoundsSecond, TellsRoom, TellsSurely};
+ghost use Rattle.sizes.specs.Counting.{CanCount, CountsSize, HasArgument, Measures, CanFit, MeasuresSecond, TellsRoom, TellsSurely};
 
 // What counts for the variable of the innermost removed binder, or for another.
 fn chosen_size(first: usize, second: usize, inner: bool) -> usize
@@ -45,26 +45,31 @@ fn size_after(w: &[u8], src: usize, d: u16, m: u16, first: usize, second: usize)
     n
 }
 
-// The size of the term that an argument stands for. Where uses are wrapped, they are counted.
-pub fn argument_size(w: &[u8], g: Argument) -> usize
+// The size of the term that an argument stands for, where it is asked for exactly. Else a number that is not below it: wrapping at most doubles a
+// tree, so uses that are wrapped are not counted.
+pub fn argument_size(w: &[u8], g: Argument, exactly: bool) -> usize
     requires { ⌜ HasArgument (recordsIn (now w)) g ⌝ }
-    ensures { λ n. ⌜ Measures (recordsIn (now (w .entry))) g n ⌝ }
+    ensures { λ n. ⌜ Measures (recordsIn (now (w .entry))) g exactly n ⌝ }
 {
     match g {
         Argument::Tree(at) => tree_size(w, at),
         Argument::Quote(at, ty) => 1 + tree_size(w, at),
-        Argument::Opened(at, ty, a, b) => 2 + size_after(w, at, 0, 1, 2, 2),
+        Argument::Opened(at, ty, a, b) => if exactly {
+            2 + size_after(w, at, 0, 1, 2, 2)
+        } else {
+            2 + 2 * tree_size(w, at)
+        },
     }
 }
 
-// The size of what stands for index 1, or 0 where one variable is replaced.
-fn second_size(w: &[u8], at: usize, g: Arguments) -> usize
+// The same for what stands for index 1, or 0 where one variable is replaced.
+fn second_size(w: &[u8], at: usize, g: Arguments, exactly: bool) -> usize
     requires { ⌜ CanFit (recordsIn (now w)) at g ⌝ }
-    ensures { λ n. ⌜ MeasuresSecond (recordsIn (now (w .entry))) g n ⌝ }
+    ensures { λ n. ⌜ MeasuresSecond (recordsIn (now (w .entry))) g exactly n ⌝ }
 {
     if 1 < g.count {
         let second = g.second;
-        argument_size(w, second)
+        argument_size(w, second, exactly)
     } else {
         0
     }
@@ -77,31 +82,6 @@ fn larger(x: usize, y: usize) -> usize
     if x < y { y } else { x }
 }
 
-// A number that is not below the size of the term that an argument stands for. Wrapping at most doubles a tree, so nothing is counted.
-fn argument_most(w: &[u8], g: Argument) -> usize
-    requires { ⌜ HasArgument (recordsIn (now w)) g ⌝ }
-    ensures { λ n. ⌜ Bounds (recordsIn (now (w .entry))) g n ⌝ }
-{
-    match g {
-        Argument::Tree(at) => tree_size(w, at),
-        Argument::Quote(at, ty) => 1 + tree_size(w, at),
-        Argument::Opened(at, ty, a, b) => 2 + 2 * tree_size(w, at),
-    }
-}
-
-// The same for what stands for index 1, or 0 where one variable is replaced.
-fn second_most(w: &[u8], at: usize, g: Arguments) -> usize
-    requires { ⌜ CanFit (recordsIn (now w)) at g ⌝ }
-    ensures { λ n. ⌜ BoundsSecond (recordsIn (now (w .entry))) g n ⌝ }
-{
-    if 1 < g.count {
-        let second = g.second;
-        argument_most(w, second)
-    } else {
-        0
-    }
-}
-
 // Whether the tree at `at` has room, without counting what the arguments stand for: none of its records makes more than the larger of the bounds of
 // these, and no variable more than its own.
 fn surely_fits(w: &[u8], at: usize, g: Arguments, room: usize) -> bool
@@ -109,8 +89,8 @@ fn surely_fits(w: &[u8], at: usize, g: Arguments, room: usize) -> bool
     ensures { λ b. ⌜ TellsSurely (recordsIn (now (w .entry))) at g room b ⌝ }
 {
     let inner = g.first;
-    let first = argument_most(w, inner);
-    let second = second_most(w, at, g);
+    let first = argument_size(w, inner, false);
+    let second = second_size(w, at, g, false);
     if tree_size(w, at) * larger(first, second) <= room {
         return true;
     }
@@ -127,7 +107,7 @@ pub fn replaced_fits(w: &[u8], at: usize, g: Arguments, room: usize) -> bool
         return true;
     }
     let inner = g.first;
-    let first = argument_size(w, inner);
-    let second = second_size(w, at, g);
+    let first = argument_size(w, inner, true);
+    let second = second_size(w, at, g, true);
     size_after(w, at, 0, g.count, first, second) <= room
 }

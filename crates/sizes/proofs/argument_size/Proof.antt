@@ -15,7 +15,11 @@ argument-size-spec =
     (λ c. search (measuring, needs))  -- enum-known-g-3
     (λ c κs. search (measuring, needs))  -- size-after-requires
     (λ c. search (measuring, needs))  -- add-result-2
+    (λ c κs. search (measuring, needs))  -- tree-size-requires-3
+    (λ c. search (measuring, needs))  -- mul-result
+    (λ c. search (measuring, needs))  -- add-result-3
     (λ c. search (measuring, needs))  -- returns
     (λ c. search (measuring, needs))  -- returns-2
     (λ c. search (measuring, needs))  -- returns-3
+    (λ c. search (measuring, needs))  -- returns-4
     )

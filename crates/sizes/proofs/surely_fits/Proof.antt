@@ -7,8 +7,8 @@ use Rattle.sizes.proofs.surely_fits.Tie as tie
 pub surely-fits-spec : {M : Type 1} → statement M
 surely-fits-spec =
     tie.close (tie.spec
-    (λ c κs. search (fitting, needs))  -- argument-most-requires
-    (λ c κs. search (fitting, needs))  -- second-most-requires
+    (λ c κs. search (fitting, needs))  -- argument-size-requires
+    (λ c κs. search (fitting, needs))  -- second-size-requires
     (λ c κs. search (fitting, needs))  -- tree-size-requires
     (λ c κs. search (fitting, needs))  -- larger-requires
     (λ c. search (fitting, needs))  -- mul-if1
