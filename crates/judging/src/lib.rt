@@ -1,6 +1,6 @@
 // "A record is judged from its binders, its level and its children's written types": refusals 10 to 12 of one record.
 // Each kind has a type rule of its own, and kinds 2 and 10 ask something of their binder: for these the kind's number is matched here. Which field
-// is an index and at which levels a kind may stand are asked of the tables of `rules`.
+// is an index and at which levels a kind may stand are asked of the tables of `kinds`.
 ghost use Prim.Native.Nat.{_≤_};
 ghost use lib.ListN.{length};
 ghost use Rattle.rules.specs.Kinds.{matchApplication, matchFunction, matchFix};

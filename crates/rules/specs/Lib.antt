@@ -35,5 +35,3 @@ pub mod SmallInputs
 pub mod BenchSheet
 pub mod Slips
 pub mod Limits
-
--- What the code of this crate hands on by value.
