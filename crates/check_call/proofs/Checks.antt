@@ -1,5 +1,5 @@
 -- Check's answer: `checking` for search. A refused program's is its refusal, a passed one's the root's type and the count of records.
-use Prim.Native.Nat.{ℕ, _+_, _*_, _-_, _≤_, _<_}
+use Prim.Native.Nat.{ℕ, _+_, _*_, _-_, _<_}
 use native.Mathlib.Omega.{arith}
 use mathlib.Core.List.{List}
 use mathlib.Core.Option.{Option, none, some}
@@ -8,6 +8,7 @@ use lib.ListN.{length, getD, take, drop}
 use Rattle.kinds.specs.declared.editions.Edition.{Edition}
 use Rattle.rules.specs.Editions.{firstEdition}
 use Rattle.kinds.specs.Meant.{editionMeant}
+use Rattle.rules.specs.FieldUses.{given}
 use Rattle.rules.specs.Format.{noRecord, typeCount, recordCount, recordsOf}
 use Rattle.rules.specs.Refusals.{Refusal}
 use Rattle.rules.specs.Check.{typeNo, passing, failing, refusal, checkAnswer}
@@ -16,7 +17,7 @@ use Rattle.rules.proofs.Meaning.{exactly, answered, records-counted}
 use Rattle.records.specs.View.{recordsIn}
 use Rattle.records.specs.Meant.{recordMeant}
 use Rattle.records.specs.declared.Record.{Record}
-use Rattle.records.proofs.Program.{program-records-slice}
+use Rattle.records.proofs.Program.{layout-records-slice, layouts}
 use Rattle.refusals.specs.declared.Verdict.{Verdict}
 use Rattle.refusals.specs.Tells.{shown, Tells}
 use Rattle.refusals.proofs.Laws.{no-number}
@@ -38,21 +39,12 @@ module _ (p : List ℕ) (e : Edition) (first : editionMeant e ≡ firstEdition) 
   check-meets z = exactly firstEdition p .0 (no-number f (refusal firstEdition p) t z)
 
 module _ (p : List ℕ) (meets : Meets firstEdition p) where
-  pub passing-types : 0 + 1 < length p
-  passing-types = omega (arith, meets .exact)
-
-  pub passing-count : 2 + 1 < length p
-  passing-count = omega (arith, meets .exact)
-
   module _ (T : ℕ) (eT : T ≡ typeCount p) where
-    pub passing-end : 4 + 6 * T ≤ length p
-    passing-end = omega (arith, meets .exact)
-
     records-there : recordsOf p ≡ recordsIn (take (length p - (4 + 6 * T)) (drop (4 + 6 * T) p))
-    records-there = program-records-slice p (meets .exact) (4 + 6 * T) (omega (arith, eT))
+    records-there = layout-records-slice given firstEdition p (meets .layout) T eT
 
     pub passing-root : 0 < length (recordsIn (take (length p - (4 + 6 * T)) (drop (4 + 6 * T) p)))
-    passing-root = omega (arith, ap length records-there, records-counted p, meets .counts .1 .0)
+    passing-root = omega (arith, ap length records-there, records-counted p, meets .layout .counts .1 .0)
 
     pub root-told : (r : Record) → recordMeant r ≡ getD (recordsIn (take (length p - (4 + 6 * T)) (drop (4 + 6 * T) p))) 0 noRecord → r .ty ≡ typeNo (recordsOf p) 1
     root-told r e = ap (λ x. x .fields .type) e ∙ ap (λ rs. getD rs 0 noRecord .fields .type) (sym records-there)
@@ -60,4 +52,4 @@ module _ (p : List ℕ) (meets : Meets firstEdition p) where
   pub check-passed : (root R : ℕ) → root ≡ typeNo (recordsOf p) 1 → R ≡ recordCount p → passing root R ≡ checkAnswer firstEdition p
   check-passed root R e eR = ap₂ passing e eR ∙ sym (answered firstEdition p (exactly firstEdition p .1 meets))
 
-pub ruleset checking = (check-refused, check-meets, passing-types, passing-count, passing-end, passing-root, root-told, check-passed)
+pub ruleset checking = (layouts, check-refused, check-meets, passing-root, root-told, check-passed)

@@ -1,12 +1,15 @@
-// Check's refusals, 3 to 12, in document 01's order. The first check that refuses is the answer.
+// Check's refusals, 3 to 12, in document 01's order, and those of a program's layout alone, 3 to 9 with document 02's 13, where types may be
+// omitted. The first check that refuses is the answer.
 ghost use mathlib.Core.Path.{_≡_};
 ghost use lib.ListN.{length};
 ghost use Rattle.rules.specs.Conditions.{holds};
-ghost use Rattle.kinds.specs.Meant.{editionMeant};
-ghost use Rattle.rules.specs.Check.{countsRule, refusalOf, refusal};
+ghost use Rattle.kinds.specs.Meant.{editionMeant, typeFieldsMeant};
+ghost use Rattle.rules.specs.Refusals.{typeWritten, lowest};
+ghost use Rattle.rules.specs.FieldUses.{omitted};
+ghost use Rattle.rules.specs.Check.{countsRule, omittedRule, formRefusal, layoutRefusal, refusal};
 ghost use Rattle.records.specs.View.{entriesIn, recordsIn};
 ghost use Rattle.refusals.specs.Tells.{Tells};
-ghost use Rattle.checker.specs.Limits.{InLimits};
+ghost use Rattle.checker.specs.Limits.{sizeRefusal, InLimits};
 use kinds::Edition;
 use kinds::both;
 use kinds::in_range;
@@ -22,33 +25,51 @@ fn counts_ok(types: u16, count: u16) -> bool
     )
 }
 
-// Refusals 6 to 12 of a table and records.
-fn form_refusal(table: &[u8], types: u16, records: &[u8], count: u16, edition: Edition) -> Verdict
+// Refusal 13, where types are not given.
+fn written_refusal(records: &[u8], count: u16, given: bool) -> Verdict
+    requires { ⌜ length (recordsIn (now records)) ≡ count ⌝ }
+    ensures { λ r. ⌜ Tells r (lowest (omittedRule (typeFieldsMeant given) (recordsIn (now (records .entry)))) typeWritten 1 count) ⌝ }
+{
+    if given {
+        return refusals::no_refusal();
+    }
+    fields::omitted_refusal(records, count)
+}
+
+// Refusals 6, 7, 13, 8 and 9 of a table and records.
+fn form_refusal(
+    table: &[u8],
+    types: u16,
+    records: &[u8],
+    count: u16,
+    edition: Edition,
+    given: bool,
+) -> Verdict
     requires { ⌜ InLimits (entriesIn (now table)) types (recordsIn (now records)) count ⌝ }
-    ensures { λ r. ⌜ Tells r (refusalOf (editionMeant edition) (entriesIn (now (table .entry))) (recordsIn (now (records .entry)))) ⌝ }
+    ensures { λ r. ⌜ Tells r (formRefusal (typeFieldsMeant given) (editionMeant edition) (entriesIn (now (table .entry))) (recordsIn (now (records .entry)))) ⌝ }
 {
     let entries = fields::entries_refusal(table, types);
     if entries.number != 0 {
         return entries;
     }
-    let fields = fields::fields_refusal(table, types, records, count, edition);
+    let fields = fields::fields_refusal(table, types, records, count, edition, given);
     if fields.number != 0 {
         return fields;
+    }
+    let written = written_refusal(records, count, given);
+    if written.number != 0 {
+        return written;
     }
     let named = links::links_refusal(records, count);
     if named.number != 0 {
         return named;
     }
-    let children = links::children_refusal(records, count);
-    if children.number != 0 {
-        return children;
-    }
-    typing::types_refusal(table, records, count)
+    links::children_refusal(records, count)
 }
 
-// The refusal of a program of the edition, or none where it is passed.
-pub fn program_refusal(program: &[u8], edition: Edition) -> Verdict
-    ensures { λ r. ⌜ Tells r (refusal (editionMeant edition) (now (program .entry))) ⌝ }
+// The refusal of a program for its length and its counts: 3, 4 and 5.
+fn size_refusal(program: &[u8]) -> Verdict
+    ensures { λ r. ⌜ Tells r (sizeRefusal (now (program .entry))) ⌝ }
 {
     let length = program.len();
     if length < 4 {
@@ -63,5 +84,52 @@ pub fn program_refusal(program: &[u8], edition: Edition) -> Verdict
     if length != end + 16 * (count as usize) {
         return refusals::refuse(refusals::BAD_LENGTH, 0);
     }
-    form_refusal(&program[4..end], types, &program[end..], count, edition)
+    refusals::no_refusal()
+}
+
+// The refusal of a program of the edition for its layout, before its types are looked at: 3, 4 and 5, then those of its table and records. Its types are
+// omitted.
+pub fn layout_refusal(program: &[u8], edition: Edition) -> Verdict
+    ensures { λ r. ⌜ Tells r (layoutRefusal omitted (editionMeant edition) (now (program .entry))) ⌝ }
+{
+    let size = size_refusal(program);
+    if size.number != 0 {
+        return size;
+    }
+    let types = records::get16(program, 0);
+    let count = records::get16(program, 2);
+    let end = 4 + 6 * (types as usize);
+    form_refusal(
+        &program[4..end],
+        types,
+        &program[end..],
+        count,
+        edition,
+        false,
+    )
+}
+
+// The refusal of a program of the edition, or none where it is passed.
+pub fn program_refusal(program: &[u8], edition: Edition) -> Verdict
+    ensures { λ r. ⌜ Tells r (refusal (editionMeant edition) (now (program .entry))) ⌝ }
+{
+    let size = size_refusal(program);
+    if size.number != 0 {
+        return size;
+    }
+    let types = records::get16(program, 0);
+    let count = records::get16(program, 2);
+    let end = 4 + 6 * (types as usize);
+    let form = form_refusal(
+        &program[4..end],
+        types,
+        &program[end..],
+        count,
+        edition,
+        true,
+    );
+    if form.number != 0 {
+        return form;
+    }
+    typing::types_refusal(&program[4..end], &program[end..], count)
 }

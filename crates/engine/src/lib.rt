@@ -6,9 +6,9 @@ ghost use Rattle.check_call.specs.Answers.{checkMeant};
 ghost use Rattle.run_call.specs.Answers.{Ran};
 pub use check_call::CheckAnswer;
 pub use check_call::check;
-pub use run_call::OUTPUT;
+pub use lending::OUTPUT;
+pub use lending::WORK;
 pub use run_call::RunAnswer;
-pub use run_call::WORK;
 pub use run_call::run;
 
 // The calls for C: each slice is a pointer and a length.

@@ -7,7 +7,7 @@ use lib.ListN.{length}
 use Rattle.rules.specs.Editions.{Edition}
 use Rattle.rules.specs.Types.{Table}
 use Rattle.rules.specs.Conditions.{met, holds}
-use Rattle.rules.specs.FieldUses.{Use, useNumber, field}
+use Rattle.rules.specs.FieldUses.{Use, useNumber, TypeFields, field}
 use Rattle.rules.specs.Format.{Record}
 use Rattle.rules.specs.Check.{fieldsRule}
 
@@ -16,5 +16,5 @@ pub record FieldTested (u types x : ℕ) (r : Bool) : Type 0 where
   pub is : (table : Table) (v : Use) → length table ≡ types → u ≡ useNumber v → r ≡ met (field table v x)
 
 -- r is whether the record keeps rule 7.
-pub record FieldsTested (edition : Edition) (types : ℕ) (x : Record) (r : Bool) : Type 0 where
-  pub is : (table : Table) → length table ≡ types → r ≡ holds (fieldsRule edition table x)
+pub record FieldsTested (fields : TypeFields) (edition : Edition) (types : ℕ) (x : Record) (r : Bool) : Type 0 where
+  pub is : (table : Table) → length table ≡ types → r ≡ holds (fieldsRule fields edition table x)

@@ -1,13 +1,14 @@
-// Refusals 6 and 7: the type entries and the records' fields. Each is a scan that stops at the lowest fault.
+// Refusals 6, 7 and 13: the type entries, the records' fields, and types that are written where they are to be omitted. Each is a scan that stops at the lowest fault.
 ghost use mathlib.Core.Path.{_≡_};
 ghost use Prim.Native.Nat.{_-_, _*_, _≤_, _<_};
 ghost use lib.ListN.{length};
 ghost use lib.Dec.{eqb};
 ghost use Rattle.rules.specs.Conditions.{between, sameEntry, met, holds};
+ghost use Rattle.rules.specs.FieldUses.{omitted};
 ghost use Rattle.rules.specs.Format.{recordNo};
-ghost use Rattle.kinds.specs.Meant.{editionMeant};
-ghost use Rattle.rules.specs.Refusals.{badEntry, badField, lowest};
-ghost use Rattle.rules.specs.Check.{kindRule, alike, entryRule, fieldsRule};
+ghost use Rattle.kinds.specs.Meant.{editionMeant, typeFieldsMeant};
+ghost use Rattle.rules.specs.Refusals.{badEntry, badField, typeWritten, lowest};
+ghost use Rattle.rules.specs.Check.{kindRule, alike, entryRule, fieldsRule, omittedRule};
 ghost use Rattle.records.specs.View.{entriesIn, recordsIn};
 ghost use Rattle.records.specs.Meant.{entryMeant, recordMeant};
 ghost use Rattle.refusals.specs.Tells.{Tells};
@@ -18,13 +19,14 @@ ghost use Rattle.fields.specs.BitSets.{Inserted};
 ghost use Rattle.fields.specs.Noting.{CanNote, Notes, CanScanTable};
 use kinds::Edition;
 use kinds::both;
+use kinds::either;
 use kinds::in_range;
 use records::Entry;
 use records::Record;
 use refusals::Verdict;
 
 // Whether two entries are the same.
-fn same_entry(x: Entry, y: Entry) -> bool
+pub fn same_entry(x: Entry, y: Entry) -> bool
     ensures { λ r. ⌜ r ≡ sameEntry (entryMeant x) (entryMeant y) ⌝ }
 {
     both(x.kind == y.kind, both(x.a == y.a, x.b == y.b))
@@ -163,35 +165,61 @@ fn field_ok(usage: u16, types: u16, x: u32) -> bool
     }
 }
 
-// Whether a record's kind is one of the edition's and its fields are good, where there are `types` entries.
-fn fields_ok(types: u16, r: Record, edition: Edition) -> bool
-    ensures { λ q. ⌜ FieldsTested (editionMeant edition) types (recordMeant r) q ⌝ }
+// Whether a record's kind is one of the edition's and its fields are good, where there are `types` entries. Its type is looked at where types are
+// given.
+fn fields_ok(types: u16, r: Record, edition: Edition, given: bool) -> bool
+    ensures { λ q. ⌜ FieldsTested (typeFieldsMeant given) (editionMeant edition) types (recordMeant r) q ⌝ }
 {
     let kind = r.kind;
     let known = in_range(1, kind as u32, edition.last_kind as u32);
-    let ty = in_range(1, r.ty as u32, types as u32);
+    let ty = either(!given, in_range(1, r.ty as u32, types as u32));
     let a = field_ok(kinds::use_of_a(kind), types, r.a as u32);
     let b = field_ok(kinds::use_of_b(kind), types, r.b as u32);
     let value = field_ok(kinds::use_of_value(kind), types, r.value);
     both(known, both(ty, both(a, both(b, value))))
 }
 
-// Refusal 7: the lowest record with a bad kind, type, a, b or value.
+// Refusal 7: the lowest record with a bad kind, type, a, b or value. Where types are not given, but omitted, it "doesn't look at the type field".
 pub fn fields_refusal(
     table: &[u8],
     types: u16,
     records: &[u8],
     count: u16,
     edition: Edition,
+    given: bool,
 ) -> Verdict
     requires { ⌜ Sized (entriesIn (now table)) types (recordsIn (now records)) count ⌝ }
-    ensures { λ r. ⌜ Tells r (lowest (λ n. fieldsRule (editionMeant edition) (entriesIn (now (table .entry))) (recordNo (recordsIn (now (records .entry))) n)) badField 1 count) ⌝ }
+    ensures { λ r. ⌜ Tells r (lowest (λ n. fieldsRule (typeFieldsMeant given) (editionMeant edition) (entriesIn (now (table .entry))) (recordNo (recordsIn (now (records .entry))) n)) badField 1 count) ⌝ }
 {
     let mut n: u16 = 0;
     while n < count {
         n += 1;
-        if !fields_ok(types, records::record_no(records, n), edition) {
+        if !fields_ok(types, records::record_no(records, n), edition, given) {
             return refusals::refuse(refusals::BAD_FIELD, n);
+        }
+    }
+    refusals::no_refusal()
+}
+
+// Whether record n has no type written.
+fn is_omitted(records: &[u8], n: u16) -> bool
+    requires { ⌜ Within (recordsIn (now records)) n ⌝ }
+    ensures { λ r. ⌜ r ≡ holds (omittedRule omitted (recordsIn (now (records .entry))) n) ⌝ }
+{
+    let r = records::record_no(records, n);
+    r.ty == 0
+}
+
+// Refusal 13, where types are omitted: the lowest record with a nonzero type field.
+pub fn omitted_refusal(records: &[u8], count: u16) -> Verdict
+    requires { ⌜ length (recordsIn (now records)) ≡ count ⌝ }
+    ensures { λ r. ⌜ Tells r (lowest (omittedRule omitted (recordsIn (now (records .entry)))) typeWritten 1 count) ⌝ }
+{
+    let mut n: u16 = 0;
+    while n < count {
+        n += 1;
+        if !is_omitted(records, n) {
+            return refusals::refuse(refusals::TYPE_WRITTEN, n);
         }
     }
     refusals::no_refusal()

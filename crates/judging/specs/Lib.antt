@@ -1,4 +1,3 @@
--- What the contracts of the judging of a record cite: the stack of binders, the judging itself, and the tests that it is made of.
+-- What the contracts of the judging of a record cite: the stack of binders, and the tests that the judging is made of.
 pub mod Stack
-pub mod Judging
 pub mod Tests

@@ -3,25 +3,25 @@
 // is an index and at which levels a kind may stand are asked of the tables of `kinds`.
 ghost use Prim.Native.Nat.{_≤_};
 ghost use lib.ListN.{length};
-ghost use Rattle.rules.specs.Kinds.{matchApplication, matchFunction, matchFix};
+ghost use Rattle.rules.specs.Kinds.{matchApplication, matchFunction, matchFix, kindOf};
 ghost use Rattle.rules.specs.Types.{Nat, Fn, Code};
+ghost use Rattle.rules.specs.Check.{judged};
 ghost use Rattle.records.specs.View.{entriesIn};
 ghost use Rattle.records.specs.Meant.{recordMeant};
 ghost use Rattle.records.specs.Places.{IsEntry};
 ghost use Rattle.refusals.specs.Tells.{Tells};
 ghost use Rattle.judging.specs.Stack.{stack};
-ghost use Rattle.judging.specs.Judging.{judged};
 ghost use Rattle.judging.specs.Tests.{IsBinder, Tests, EntryTest, matchChildrenRule, IsMatch, ShapeTest, PatternTest, IndexTest, LevelTest, TypeTest};
 use kinds::both;
 
 // The level of a binder's variable, and its type.
-struct Binder {
-    level: u16,
-    ty: u16,
+pub struct Binder {
+    pub level: u16,
+    pub ty: u16,
 }
 
 // Entry n, counted from 1; all its fields are 0 where there is none.
-fn entry_if_any(table: &[u8], n: u16) -> records::Entry
+pub fn entry_if_any(table: &[u8], n: u16) -> records::Entry
     ensures { λ r. ⌜ IsEntry (entriesIn (now (table .entry))) n r ⌝ }
 {
     if n == 0 || table.len() < 6 * (n as usize) {
@@ -61,7 +61,7 @@ fn is_code(table: &[u8], n: u16, c: u16) -> bool
 }
 
 // The binder that index i names; level 2 and type 0 where there is none.
-fn binder_at(binders: &[u32], depth: usize, i: u16) -> Binder
+pub fn binder_at(binders: &[u32], depth: usize, i: u16) -> Binder
     requires { ⌜ depth ≤ length (now binders) ⌝ }
     ensures { λ r. ⌜ IsBinder (stack (now (binders .entry)) depth) i r ⌝ }
 {
@@ -192,7 +192,7 @@ pub fn judge(
     z: u16,
 ) -> refusals::Verdict
     requires { ⌜ depth ≤ length (now binders) ⌝ }
-    ensures { λ q. ⌜ Tells q (judged (entriesIn (now (table .entry))) (stack (now (binders .entry)) depth) level n (recordMeant r) x y z) ⌝ }
+    ensures { λ q. ⌜ Tells q (judged (entriesIn (now (table .entry))) (stack (now (binders .entry)) depth) level n (kindOf (recordMeant r .kind)) (recordMeant r .fields) x y z) ⌝ }
 {
     let bound = binder_at(binders, depth, r.a);
     if !index_ok(r, depth) {

@@ -7,6 +7,7 @@ mod editions; // what a program may use
 pub use bounds::MOST_RECORDS;
 pub use bounds::MOST_TYPES;
 pub use conditions::both;
+pub use conditions::either;
 pub use conditions::in_range;
 pub use editions::Edition;
 pub use editions::first_edition;

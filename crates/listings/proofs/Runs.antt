@@ -9,24 +9,24 @@ use lib.ListN.{length, take, drop, length-append, length-drop}
 use lib.Seq.{take-append-le, drop-append-le}
 use Rattle.rules.specs.Editions.{firstEdition}
 use Rattle.rules.specs.Terms.{Term}
+use Rattle.rules.specs.FieldUses.{given}
 use Rattle.rules.specs.Format.{mostRecords, u16, typeCount, recordCount, tableOf, recordsOf, programBytes}
 use Rattle.rules.specs.Links.{laid}
-use Rattle.rules.specs.Refusals.{Refusal, OneOfTwelve}
+use Rattle.rules.specs.Refusals.{Refusal, OneOfTwelve, _then_}
 use Rattle.rules.specs.Check.{refusal}
 use Rattle.rules.specs.Meets.{Meets}
-use Rattle.rules.specs.Run.{Ending, valued, spent, full, endingNumber, programCourse, output, accepted, refused, outputNeeded, workNeeded, runAnswer, runOutput}
+use Rattle.rules.specs.Run.{Ending, valued, spent, full, endingNumber, programCourse, output, accepted, refused, outputNeeded, workNeeded, runRefusal, runAnswer, runOutput}
 use Rattle.rules.proofs.General.{Gives}
 use Rattle.rules.proofs.Twelve.{refusal-numbered}
-use Rattle.rules.proofs.Meaning.{exactly}
+use Rattle.rules.proofs.Meaning.{buffers-passed, exactly}
 use Rattle.rules.proofs.Laid.{length-laid}
 use Rattle.rules.proofs.Bytes.{Back, u16-back}
-use Rattle.rules.proofs.Written.{back, passed-table}
+use Rattle.rules.proofs.Written.{GoodTable, back, layout-table}
 use Rattle.rules.proofs.Whole.{last-typed, last-small}
 use Rattle.records.specs.View.{recordsIn}
 use Rattle.records.proofs.Program.{program-records-slice}
 use Rattle.run_call.specs.declared.RunAnswer.{RunAnswer}
 use Rattle.run_call.specs.Answers.{runMeant, Accepted, Ran}
-use Rattle.run_call.proofs.Answering.{buffers-long}
 use Rattle.listing_text.specs.Text.{refusedText, acceptedText}
 use Rattle.listings.specs.Listing.{answerText, runText}
 
@@ -42,6 +42,11 @@ ending-range : (e : Ending) → (1 ≤ endingNumber e) × (endingNumber e ≤ 3)
 ending-range valued = omega arith
 ending-range spent = omega arith
 ending-range full = omega arith
+
+-- With buffers that are long enough a run is refused as check refuses.
+buffers-long : (p : List ℕ) (o w : ℕ) → outputNeeded ≤ o → workNeeded ≤ w → runRefusal firstEdition p o w ≡ refusal firstEdition p
+unfolding _then_
+buffers-long p o w room slots = ap (λ q. q then refusal firstEdition p) (buffers-passed o w room slots)
 
 -- The answer does not depend on how long the buffers are, if they are long enough.
 answer-same : (p : List ℕ) (fuel o w : ℕ) → outputNeeded ≤ o → workNeeded ≤ w → runAnswer firstEdition p fuel o w ≡ runAnswer firstEdition p fuel outputNeeded workNeeded
@@ -87,12 +92,15 @@ module _ (p : List ℕ) (fuel : ℕ) (out work : List ℕ) (room : outputNeeded 
       m : Meets firstEdition p
       m = exactly firstEdition p .0 (run-passed z)
 
+      table-good : GoodTable (tableOf p)
+      table-good = layout-table given firstEdition p (m .layout)
+
       last-back : Back (tableOf p) (laid 1 0 last)
-      last-back = back (tableOf p) last (passed-table firstEdition p m) (last-typed firstEdition (omega arith) p m fuel .0) (last-small firstEdition (omega arith) p m fuel)
+      last-back = back (tableOf p) last table-good (last-typed firstEdition (omega arith) p m fuel .0) (last-small firstEdition (omega arith) p m fuel)
 
       types-back : u16 out′ 0 ≡ length (tableOf p)
       unfolding programBytes
-      types-back = rw (accepted-run .output) (u16-back (length (tableOf p)) (omega (arith, passed-table firstEdition p m .few)))
+      types-back = rw (accepted-run .output) (u16-back (length (tableOf p)) (omega (arith, table-good .few)))
 
       written-is : a .written ≡ length bytes
       written-is = ap (λ x. x .written) (accepted-run .answer)

@@ -58,6 +58,9 @@ module _ {A : Type 0} {of : List ℕ → A} {to : A → List ℕ} {width : ℕ} 
   unfolding viewed
   front-of-viewed s n h = take-listed _ 0 n (length s / width) (count-within s n h)
 
+  pub viewed-front : (s : List ℕ) (n : ℕ) → width * n ≤ length s → viewed of width (take (width * n) s) ≡ take n (viewed of width s)
+  viewed-front s n h = viewed-of-front s n h ∙ sym (front-of-viewed s n h)
+
   -- Things that are listed from a place of the bytes on are the view of that part.
   pub viewed-part : (s : List ℕ) (base n : ℕ) → base + width * n ≤ length s
       → listed (λ i. of (drop (base + width * i) s)) 0 n ≡ viewed of width (take (width * n) (drop base s))

@@ -4,7 +4,8 @@ use native.Mathlib.Omega.{arith}
 use mathlib.Core.Path.{_≡_, ap, _∙_}
 use mathlib.Core.List.{List, _++_}
 use lib.ListN.{length, set}
-use Rattle.rules.specs.Format.{Record, bytes16, bytes32, recordBytes}
+use Rattle.rules.specs.Types.{Entry}
+use Rattle.rules.specs.Format.{Record, bytes16, bytes32, entryBytes, recordBytes}
 use Rattle.records.specs.Overwritten.{overwritten}
 use Rattle.records.proofs.Overwriting.{overwritten-twice, overwritten-pair}
 
@@ -22,6 +23,10 @@ module _ (s : List ℕ) (x : ℕ) where
   pub u32-written : (v : ℕ) {s₁ s₂ : List ℕ} → x + 3 < length s → s₂ ≡ overwritten s₁ (x + 2) (bytes16 (v / 65536))
       → s₁ ≡ overwritten s x (bytes16 (v % 65536)) → s₂ ≡ overwritten s x (bytes32 v)
   u32-written v h e₂ e₁ = field-written _ _ (omega arith) e₁ e₂
+
+  pub entry-written : (e : Entry) {s₁ s₂ s₃ : List ℕ} → x + 6 ≤ length s → s₃ ≡ overwritten s₂ (x + 4) (bytes16 (e .b))
+      → s₂ ≡ overwritten s₁ (x + 2) (bytes16 (e .a)) → s₁ ≡ overwritten s x (bytes16 (e .kind)) → s₃ ≡ overwritten s x (entryBytes e)
+  entry-written e h e₃ e₂ e₁ = field-written _ _ (omega arith) (field-written _ _ (omega arith) e₁ e₂) e₃
 
   pub record-written : (r : Record) {s₁ s₂ s₃ s₄ s₅ s₆ s₇ : List ℕ} → x + 16 ≤ length s → s₇ ≡ overwritten s₆ (x + 12) (bytes32 (r .fields .value))
       → s₆ ≡ overwritten s₅ (x + 10) (bytes16 (r .next)) → s₅ ≡ overwritten s₄ (x + 8) (bytes16 (r .first))

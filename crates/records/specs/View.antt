@@ -6,7 +6,7 @@ use mathlib.Core.List.{List}
 use lib.ListN.{length, drop, set}
 use Rattle.rules.specs.Lists.{listed}
 use Rattle.rules.specs.Types.{Entry}
-use Rattle.rules.specs.Format.{Record, entryOf, recordOf, recordBytes}
+use Rattle.rules.specs.Format.{Record, entryOf, entryBytes, recordOf, recordBytes}
 use Rattle.records.specs.Overwritten.{overwritten}
 
 -- Thing i is what `of` reads at byte `width * i`.
@@ -24,6 +24,9 @@ pub record Put {A : Type 0} (view : List ℕ → List A) (to : A → List ℕ) (
   pub within : i < length (view s)
   pub bytes : s′ ≡ overwritten s (width * i) (to x)
   pub things : view s′ ≡ set (view s) i x
+
+abbrev pub EntryPut : List ℕ → ℕ → Entry → List ℕ → Type 0
+EntryPut = Put entriesIn entryBytes 6
 
 abbrev pub RecordPut : List ℕ → ℕ → Record → List ℕ → Type 0
 RecordPut = Put recordsIn recordBytes 16

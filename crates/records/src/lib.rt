@@ -5,9 +5,9 @@ ghost use Prim.Native.Nat.{_+_, _*_, _<_, _≤_};
 ghost use lib.ListN.{length, getD, drop};
 ghost use Rattle.rules.specs.Terms.{numberHeld};
 ghost use Rattle.rules.specs.Types.{noEntry};
-ghost use Rattle.rules.specs.Format.{u16, u32, bytes16, bytes32, entryOf, recordOf, recordBytes, noRecord};
+ghost use Rattle.rules.specs.Format.{u16, u32, bytes16, bytes32, entryOf, entryBytes, recordOf, recordBytes, noRecord};
 ghost use Rattle.records.specs.Overwritten.{overwritten};
-ghost use Rattle.records.specs.View.{entriesIn, recordsIn, RecordPut};
+ghost use Rattle.records.specs.View.{entriesIn, recordsIn, EntryPut, RecordPut};
 ghost use Rattle.records.specs.Meant.{entryMeant, recordMeant};
 ghost use Rattle.records.specs.Places.{Within, IsEntry, IsRecord, InChain, Follows};
 
@@ -88,6 +88,24 @@ pub fn get_entry(s: &[u8], i: usize) -> Entry
     ensures { λ r. ⌜ entryMeant r ≡ getD (entriesIn (now (s .entry))) i noEntry ⌝ }
 {
     entry_at(s, 6 * i)
+}
+
+// Writes an entry at byte `x`.
+fn put_entry_at(s: &mut [u8], x: usize, e: Entry)
+    requires { ⌜ x + 6 ≤ length (now s) ⌝ }
+    ensures { λ _. ⌜ now (s .exit) ≡ overwritten (now (s .entry)) x (entryBytes (entryMeant e)) ⌝ }
+{
+    put16(s, x, e.kind);
+    put16(s, x + 2, e.a);
+    put16(s, x + 4, e.b);
+}
+
+// Writes entry `i`, and nothing else.
+pub fn put_entry(s: &mut [u8], i: usize, e: Entry)
+    requires { ⌜ i < length (entriesIn (now s)) ⌝ }
+    ensures { λ _. ⌜ EntryPut (now (s .entry)) i (entryMeant e) (now (s .exit)) ⌝ }
+{
+    put_entry_at(s, 6 * i, e)
 }
 
 // The record at byte `x`.

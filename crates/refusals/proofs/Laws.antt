@@ -25,6 +25,12 @@ unfolding shown
 no-number r none t e = refl
 no-number r (some x) t e = absurd (omega (arith, ap (λ f. f .number) (t .is), t .numbered))
 
+-- A verdict with a number is that of a refusal.
+pub some-number : (f : Verdict) (o : Option Refusal) → Tells f o → (f .number ≡ 0 → ⊥) → o ≡ some (refusalBy (f .number) (f .place))
+unfolding shown
+some-number f none t n = absurd (n (ap (λ x. x .number) (t .is)))
+some-number f (some q) t n = ap (λ x. some (refusalBy (x .number) (x .place))) (sym (t .is))
+
 -- One check, then others: where the first refuses that is the answer, and where it doesn't the others' is.
 pub tells-first : (r : Verdict) (o p : Option Refusal) → Tells r o → (r .number ≡ 0 → ⊥) → Tells r (o then p)
 unfolding shown _then_

@@ -28,6 +28,11 @@ pub const BAD_LEVEL: u16 = 11;
 
 pub const BAD_TYPE: u16 = 12;
 
+// Those of document 02, N1: "13 a nonzero type field", and 14, "its type would be a 257th entry".
+pub const TYPE_WRITTEN: u16 = 13;
+
+pub const TABLE_FULL: u16 = 14;
+
 pub struct Verdict {
     pub number: u16,
     pub place: u16,

@@ -16,7 +16,7 @@ use Rattle.rules.specs.Kinds.{Kind, leaf₀, unary₁, binary₂, ternar
 use Rattle.rules.specs.Terms.{Fields, Term, leaf, unary, binary, ternary, size}
 use Rattle.rules.specs.Types.{Table}
 use Rattle.rules.specs.Conditions.{Holds}
-use Rattle.rules.specs.FieldUses.{formed}
+use Rattle.rules.specs.FieldUses.{given, formed}
 use Rattle.rules.specs.Typing.{Env, Typed}
 use Rattle.rules.specs.Format.{Record, noRecord, recordNo}
 use Rattle.rules.specs.Links.{named, firstOf, nextOf, node, treeOf, linked, laid}
@@ -164,7 +164,7 @@ module _ (rs : List Record) where
   module _ (edition : Edition) (all : HasEveryKind edition) (types : Table) where
     -- Rules 7 and 9, and the links of 8.
     pub record Good (n : ℕ) : Type 0 where
-      pub fielded : Holds (fieldsRule edition types (recordNo rs n))
+      pub fielded : Holds (fieldsRule given edition types (recordNo rs n))
       pub first-good : recordNo rs n .first ≡ firstOf rs n
       pub next-good : recordNo rs n .next ≡ nextOf rs n
       pub chained : Holds (childrenRule rs n)

@@ -14,9 +14,11 @@ use Rattle.rules.specs.Types.{Table, entry, noEntry, NoTwins}
 use Rattle.rules.specs.Conditions.{met, Holds, same, sameEntry}
 use Rattle.rules.specs.Format.{Record, typeCount, recordCount, tableOf, recordsOf}
 use Rattle.rules.specs.Links.{firstTerm, NoBadLink}
-use Rattle.rules.specs.Refusals.{Refusal, OneOfTwelve, programShort, badCounts, badLength, badEntry, badField, badLink, badChildren, lowest}
-use Rattle.rules.specs.Check.{entryRule, refusalOf, refusal, checkAnswer, passing, typeNo, linksRule}
-use Rattle.rules.specs.Meets.{MeetsForm, Meets}
+use Rattle.rules.specs.Refusals.{Refusal, OneOfTwelve, outputShort, workShort, programShort, badCounts, badLength, badEntry, badField, badLink, badChildren, typeWritten, lowest}
+use Rattle.rules.specs.FieldUses.{TypeFields, given}
+use Rattle.rules.specs.Check.{entryRule, formRefusal, layoutRefusal, refusal, checkAnswer, passing, typeNo, linksRule}
+use Rattle.rules.specs.Run.{outputNeeded, workNeeded, buffersRefusal}
+use Rattle.rules.specs.Meets.{MeetsForm, MeetsLayout, Meets}
 use Rattle.rules.proofs.General.{is-true, length-listed, Gives}
 use Rattle.rules.proofs.Twelve.{refusal-numbered}
 use Rattle.rules.proofs.Tables.{Distinct, no-twins}
@@ -30,25 +32,30 @@ no-bad-link rs h =
     let l = holds-lowest (linksRule rs) badLink 1 (length rs) h in
     record { first = λ n p q. l n p (omega arith) .0; next = λ n p q. l n p (omega arith) .1 .0 }
 
--- Passed exactly when the rules are met.
-form-met : (edition : Edition) (types : Table) (rs : List Record) → 0 < length rs → refusalOf edition types rs ≡ none → MeetsForm edition types rs
-unfolding refusalOf
-form-met edition types rs z h =
-    let (h6, h₁) = both-pass _ _ h in
-    let (h7, h₂) = both-pass _ _ h₁ in
-    let (h8, h₃) = both-pass _ _ h₂ in
-    let (h9, walk) = both-pass _ _ h₃ in
-    let f = holds-lowest _ badField 1 (length rs) h7 in
-    let c = holds-lowest _ badChildren 1 (length rs) h9 in
-    record { entries = holds-lowest _ badEntry 1 (length types) h6; fielded = f; linked = holds-lowest _ badLink 1 (length rs) h8; chained = c; typed = walk-typed rs types edition f c (length rs) 1 [] 0 (omega arith) z (omega arith) walk }
+-- 6 to 9, and 13 where types are omitted, pass exactly what meets their rules.
+module _ (fields : TypeFields) (edition : Edition) (types : Table) (rs : List Record) where
+  form-met : formRefusal fields edition types rs ≡ none → MeetsForm fields edition types rs
+  unfolding formRefusal
+  form-met h =
+      let (h6, h₁) = both-pass _ _ h in
+      let (h7, h₂) = both-pass _ _ h₁ in
+      let (h13, h₃) = both-pass _ _ h₂ in
+      let (h8, h9) = both-pass _ _ h₃ in
+      record {
+        entries = holds-lowest _ badEntry 1 (length types) h6;
+        fielded = holds-lowest _ badField 1 (length rs) h7;
+        unwritten = holds-lowest _ typeWritten 1 (length rs) h13;
+        linked = holds-lowest _ badLink 1 (length rs) h8;
+        chained = holds-lowest _ badChildren 1 (length rs) h9;
+      }
 
-met-form : (edition : Edition) (types : Table) (rs : List Record) → 0 < length rs → MeetsForm edition types rs → refusalOf edition types rs ≡ none
-unfolding refusalOf
-met-form edition types rs z m =
-    pass-both (lowest-holds _ badEntry 1 (length types) (m .entries))
-    (pass-both (lowest-holds _ badField 1 (length rs) (m .fielded))
-    (pass-both (lowest-holds _ badLink 1 (length rs) (m .linked))
-    (pass-both (lowest-holds _ badChildren 1 (length rs) (m .chained)) (typed-walk rs types (m .chained) (length rs) 1 [] 0 z (λ _. m .typed)))))
+  met-form : MeetsForm fields edition types rs → formRefusal fields edition types rs ≡ none
+  unfolding formRefusal
+  met-form m =
+      pass-both (lowest-holds _ badEntry 1 (length types) (m .entries))
+      (pass-both (lowest-holds _ badField 1 (length rs) (m .fielded))
+      (pass-both (lowest-holds _ typeWritten 1 (length rs) (m .unwritten))
+      (pass-both (lowest-holds _ badLink 1 (length rs) (m .linked)) (lowest-holds _ badChildren 1 (length rs) (m .chained)))))
 
 pub types-counted : (program : List ℕ) → length (tableOf program) ≡ typeCount program
 unfolding tableOf
@@ -58,20 +65,42 @@ pub records-counted : (program : List ℕ) → length (recordsOf program) ≡ re
 unfolding recordsOf
 records-counted program = length-listed _ 0 (recordCount program)
 
+-- A layout is passed exactly when its rules are met.
+pub layout-exactly : (fields : TypeFields) (edition : Edition) (program : List ℕ) → layoutRefusal fields edition program ≡ none ↔ MeetsLayout fields edition program
+unfolding layoutRefusal
+layout-exactly fields edition program = (
+  λ h.
+      let (h3, h₁) = both-pass _ _ h in
+      let (h4, h₂) = both-pass _ _ h₁ in
+      let (h5, h₃) = both-pass _ _ h₂ in
+      record { counts = holds-unless _ badCounts 0 h4; exact = holds-unless _ badLength 0 h5 .0; form = form-met fields edition (tableOf program) (recordsOf program) h₃ },
+  λ m.
+      let c = m .counts in
+      let e = m .exact in
+      pass-both (unless-holds _ programShort 0 (omega (arith, c .0), tt)) (pass-both (unless-holds _ badCounts 0 c) (pass-both (unless-holds _ badLength 0 (e, tt)) (met-form fields edition (tableOf program) (recordsOf program) (m .form)))),
+)
+
+-- Buffers that are long enough are not refused.
+pub buffers-passed : (o w : ℕ) → outputNeeded ≤ o → workNeeded ≤ w → buffersRefusal o w ≡ none
+buffers-passed o w room long = pass-both (unless-holds _ outputShort 0 (omega arith, tt)) (unless-holds _ workShort 0 (omega arith, tt))
+
+-- There is a record, the root.
+pub some-record : (fields : TypeFields) (edition : Edition) (program : List ℕ) → MeetsLayout fields edition program → 0 < length (recordsOf program)
+some-record fields edition program m = omega (arith, records-counted program, m .counts .1 .0)
+
+-- Passed exactly when the rules are met.
 pub exactly : (edition : Edition) (program : List ℕ) → refusal edition program ≡ none ↔ Meets edition program
 unfolding refusal
 exactly edition program =
-    let R = records-counted program in (
+    let types = tableOf program in
+    let rs = recordsOf program in (
       λ h.
-          let (h3, h₁) = both-pass _ _ h in
-          let (h4, h₂) = both-pass _ _ h₁ in
-          let (h5, h₃) = both-pass _ _ h₂ in
-          let c = holds-unless _ badCounts 0 h4 in
-          record { counts = c; exact = holds-unless _ badLength 0 h5 .0; form = form-met edition (tableOf program) (recordsOf program) (omega (arith, c .1 .0)) h₃ },
+          let (h₁, walk) = both-pass _ _ h in
+          let m = layout-exactly given edition program .0 h₁ in
+          record { layout = m; typed = walk-typed rs types edition (m .form .fielded) (m .form .chained) (length rs) 1 [] 0 (omega arith) (some-record given edition program m) (omega arith) walk },
       λ m.
-          let c = m .counts in
-          let e = m .exact in
-          pass-both (unless-holds _ programShort 0 (omega (arith, c .0), tt)) (pass-both (unless-holds _ badCounts 0 c) (pass-both (unless-holds _ badLength 0 (e, tt)) (met-form edition (tableOf program) (recordsOf program) (omega (arith, c .1 .0)) (m .form)))),
+          let l = m .layout in
+          pass-both (layout-exactly given edition program .1 l) (typed-walk rs types (l .form .chained) (length rs) 1 [] 0 (some-record given edition program l) (λ _. m .typed)),
     )
 
 -- Equal types have equal numbers.
@@ -91,10 +120,12 @@ module _ (types : Table) (good : (n : ℕ) → 1 ≤ n → n < 1 + length types 
   pub unlike : NoTwins types
   unlike = no-twins types distinct
 
--- What a program's meeting the rules means.
-module _ (edition : Edition) (program : List ℕ) (meets : Meets edition program) where
-  pub root-size : size (firstTerm program) ≡ recordCount program
-  root-size = let R = records-counted program in whole-size (recordsOf program) (meets .form .chained) (meets .form .linked) (omega (arith, meets .counts .1 .0)) ∙ R
+-- The tree of a program of good layout has all its records.
+pub layout-size : (fields : TypeFields) (edition : Edition) (program : List ℕ) → MeetsLayout fields edition program → size (firstTerm program) ≡ recordCount program
+layout-size fields edition program m = whole-size (recordsOf program) (m .form .chained) (m .form .linked) (some-record fields edition program m) ∙ records-counted program
+
+pub root-size : (edition : Edition) (program : List ℕ) → Meets edition program → size (firstTerm program) ≡ recordCount program
+root-size edition program m = layout-size given edition program (m .layout)
 
 module _ (edition : Edition) (program : List ℕ) where
   pub answered : refusal edition program ≡ none → checkAnswer edition program ≡ passing (typeNo (recordsOf program) 1) (recordCount program)

@@ -7,6 +7,7 @@ use Rattle.rules.specs.Lists.{All}
 use Rattle.rules.specs.Editions.{Edition, HasEveryKind, firstEdition}
 use Rattle.rules.specs.Terms.{Term, size, typeOf}
 use Rattle.rules.specs.Types.{Table}
+use Rattle.rules.specs.FieldUses.{given}
 use Rattle.rules.specs.Typing.{Typed}
 use Rattle.rules.specs.Format.{mostRecords, tableOf}
 use Rattle.rules.specs.Links.{written, firstTerm}
@@ -16,7 +17,7 @@ use Rattle.rules.specs.Run.{course, run}
 use Rattle.rules.specs.WholeRun.{Passed, WholeRun}
 use Rattle.rules.specs.BenchSheet.{Bench, table, Kept}
 use Rattle.rules.proofs.Meaning.{passed-exactly, unlike, root-size}
-use Rattle.rules.proofs.Written.{GoodTable, term-passed, passed-table}
+use Rattle.rules.proofs.Written.{GoodTable, term-passed, layout-table}
 use Rattle.rules.proofs.Whole.{whole}
 
 pub passed-by : {edition : Edition} {types : Table} {t : Term} → checkAnswer edition (written types t) ≡ passing (typeOf t) (size t)
@@ -29,16 +30,16 @@ module _ (edition : Edition) (all : HasEveryKind edition) (types : Table) (t : T
   meets = passed-exactly edition (written types t) .0 (ap (λ a. a .number) (p .checked))
 
   pub passed-typed : Typed types [] 0 t
-  passed-typed = rw (p .table-back, p .term-back) at (meets .form .typed)
+  passed-typed = rw (p .table-back, p .term-back) at (meets .typed)
 
   passed-size : size t ≤ mostRecords
-  passed-size = omega (arith, root-size edition (written types t) meets, meets .counts .1 .0, ap size (p .term-back))
+  passed-size = omega (arith, root-size edition (written types t) meets, meets .layout .counts .1 .0, ap size (p .term-back))
 
   pub passed-good : GoodTable types
-  passed-good = rw (p .table-back) at (passed-table edition (written types t) meets)
+  passed-good = rw (p .table-back) at (layout-table given edition (written types t) (meets .layout))
 
   pub passed-run : (fuel : ℕ) → WholeRun edition types t fuel (course types fuel t)
-  passed-run fuel = whole types edition (unlike types (rw (p .table-back) at (meets .form .entries)))
+  passed-run fuel = whole types edition (unlike types (rw (p .table-back) at (meets .layout .form .entries)))
       (λ u h b. term-passed types u passed-good h b edition all) fuel t passed-typed passed-size
 
 -- What is computed of a case.

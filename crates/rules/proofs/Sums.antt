@@ -89,7 +89,7 @@ unfolding total
 total-times f c from zero = omega arith
 total-times f c from (suc n) = rw add-mul (omega (arith, total-times f c (suc from) n))
 
-total-swap : (h : ℕ → ℕ → ℕ) (a x b y : ℕ) → total (λ m. total (h m) b y) a x ≡ total (λ n. total (λ m. h m n) a x) b y
+pub total-swap : (h : ℕ → ℕ → ℕ) (a x b y : ℕ) → total (λ m. total (h m) b y) a x ≡ total (λ n. total (λ m. h m n) a x) b y
 unfolding total
 total-swap h a zero b y = sym (total-none _ b y (λ m i. refl))
 total-swap h a (suc x) b y = rw (total-add (h a) (λ n. total (λ m. h m n) (suc a) x) b y) (omega (arith, total-swap h (suc a) x b y))

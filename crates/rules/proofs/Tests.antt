@@ -13,7 +13,7 @@ use Rattle.rules.specs.Conditions.{Condition, between, anything, below, 
 use Rattle.rules.specs.Refusals.{Refusal, unless, _then_, lowest}
 use Rattle.rules.proofs.General.{is-true}
 
-meets : (c : Condition) → T (met c) → Met c
+pub meets : (c : Condition) → T (met c) → Met c
 meets anything t = tt
 meets (below m n) t = ltb→lt m n t
 meets (between m x n) t = let (h, k) = and-yes (leb m x) (leb x n) t in (leb→le m x h, leb→le x n k)

@@ -15,12 +15,13 @@ use Rattle.rules.specs.Terms.{Fields, Term, fieldsOf, typeOf, size}
 use Rattle.rules.specs.Binders.{overFirst, overSecond}
 use Rattle.rules.specs.Types.{Table}
 use Rattle.rules.specs.Conditions.{Holds, equal}
+use Rattle.rules.specs.FieldUses.{given}
 use Rattle.rules.specs.Typing.{Env, under, Judged, Typed, firstLevel}
 use Rattle.rules.specs.Format.{Record, recordNo}
 use Rattle.rules.specs.Links.{named, firstOf, nextOf, node, treeOf, rootTree}
 use Rattle.rules.specs.Editions.{Edition}
 use Rattle.rules.specs.Refusals.{badIndex, badLevel, badType}
-use Rattle.rules.specs.Check.{fieldsRule, is, linksRule, children, childrenRule, typeNo, walked, naming}
+use Rattle.rules.specs.Check.{fieldsRule, is, linksRule, children, childrenRule, typeNo, judged, walked, naming}
 use Rattle.rules.proofs.General.{picked, is-false}
 use Rattle.rules.proofs.Tests.{both-pass, pass-both, holds-unless, unless-holds}
 use Rattle.rules.proofs.Sums.{total-ext, total-add, total-ones, counted-twice, is-other, total-none}
@@ -35,7 +36,7 @@ named-above R n l = picked (λ x. 0 < x → n < x) (ltb n l && leb l R) (λ t _.
 not-root : (n x : ℕ) → 1 ≤ n → (0 < x → n < x) → is x 1 ≡ 0
 not-root n x h k = is-other x 1 (λ e. omega (arith, k (omega arith)))
 
-fields-node : (k : Kind) (f : Fields) (c s e : Term) → fieldsOf (node k f c s e) ≡ f
+pub fields-node : (k : Kind) (f : Fields) (c s e : Term) → fieldsOf (node k f c s e) ≡ f
 fields-node (leaf₀ k) f c s e = refl
 fields-node (unary₁ k) f c s e = refl
 fields-node (binary₂ k) f c s e = refl
@@ -66,7 +67,7 @@ module _ (rs : List Record) where
       go true e h = rw (e tt) root-unnamed
       go false e (h, _) = h
 
-  next-from : (n : ℕ) → 0 < nextOf rs n → 0 < n
+  pub next-from : (n : ℕ) → 0 < nextOf rs n → 0 < n
   next-from zero h = absurd (omega arith)
   next-from (suc n) h = omega arith
 
@@ -110,9 +111,9 @@ module _ (rs : List Record) where
     node-judged (binary₂ k) f Γ l tc ts te c s e x (_, (_, (h, _))) p q (j, y, z) = (j, λ i. y, λ i. z, λ i. absurd (omega arith))
     node-judged (ternary₃ k) f Γ l tc ts te c s e x h p q (j, y, z, w) = (j, λ i. y, λ i. z, λ i. w)
 
-    module _ (edition : Edition) (formed : (n : ℕ) → 1 ≤ n → n < 1 + length rs → Holds (fieldsRule edition types (recordNo rs n))) (chained : (n : ℕ) → 1 ≤ n → n < 1 + length rs → Holds (childrenRule rs n)) where
+    module _ (edition : Edition) (formed : (n : ℕ) → 1 ≤ n → n < 1 + length rs → Holds (fieldsRule given edition types (recordNo rs n))) (chained : (n : ℕ) → 1 ≤ n → n < 1 + length rs → Holds (childrenRule rs n)) where
       pub walk-typed : (left n : ℕ) (Γ : Env) (l : ℕ) → 0 < n → n ≤ length rs → length rs < n + left → walked left types rs Γ l n ≡ none → Typed types Γ l (treeOf left rs n)
-      unfolding walked treeOf
+      unfolding walked judged treeOf
       walk-typed zero n Γ l z b r h = absurd (omega arith)
       walk-typed (suc left) zero Γ l z b r h = absurd (omega arith)
       walk-typed (suc left) (suc m) Γ l z b r h =
@@ -122,11 +123,11 @@ module _ (rs : List Record) where
           let c = firstOf rs n in
           let s = nextOf rs c in
           let e = nextOf rs s in
-          let (h10, h₁) = both-pass _ _ h in
-          let (h11, h₂) = both-pass _ _ h₁ in
-          let (h12, h₃) = both-pass _ _ h₂ in
-          let (hc, h₄) = both-pass _ _ h₃ in
-          let (hs, he) = both-pass _ _ h₄ in
+          let (own, h₁) = both-pass _ _ h in
+          let (h10, h₂) = both-pass _ _ own in
+          let (h11, h12) = both-pass _ _ h₂ in
+          let (hc, h₃) = both-pass _ _ h₁ in
+          let (hs, he) = both-pass _ _ h₃ in
           node-typed k f Γ l (treeOf left rs c) (treeOf left rs s) (treeOf left rs e) c s e (nextOf rs e) (chained n z (omega arith))
           (formed n z (omega arith) .1, holds-unless _ badIndex n h10, holds-unless _ badLevel n h11, rw (tree-type, tree-type, tree-type) (holds-unless _ badType n h12))
           (λ p. walk-typed left c _ _ p (first-le n) (omega (arith, first-above n p)) hc)
@@ -135,7 +136,7 @@ module _ (rs : List Record) where
 
     module _ (chained : (n : ℕ) → 1 ≤ n → n < 1 + length rs → Holds (childrenRule rs n)) where
       pub typed-walk : (left n : ℕ) (Γ : Env) (l : ℕ) → n ≤ length rs → (0 < n → Typed types Γ l (treeOf left rs n)) → walked left types rs Γ l n ≡ none
-      unfolding walked treeOf
+      unfolding walked judged treeOf
       typed-walk zero n Γ l b h = refl
       typed-walk (suc left) zero Γ l b h = refl
       typed-walk (suc left) (suc m) Γ l b h =
@@ -146,8 +147,8 @@ module _ (rs : List Record) where
           let s = nextOf rs c in
           let e = nextOf rs s in
           let ((_, j10, j11, j12), y, z, w) = node-judged k f Γ l (treeOf left rs c) (treeOf left rs s) (treeOf left rs e) c s e (nextOf rs e) (chained n (omega arith) (omega arith)) (next-from c) (next-from s) (h (omega arith)) in
-          pass-both (unless-holds _ badIndex n j10) (pass-both (unless-holds _ badLevel n j11) (pass-both (unless-holds _ badType n (rw (tree-type, tree-type, tree-type) at j12))
-          (pass-both (typed-walk left c _ _ (first-le n) y) (pass-both (typed-walk left s _ _ (next-le c) z) (typed-walk left e _ _ (next-le s) w)))))
+          pass-both (pass-both (unless-holds _ badIndex n j10) (pass-both (unless-holds _ badLevel n j11) (unless-holds _ badType n (rw (tree-type, tree-type, tree-type) at j12))))
+          (pass-both (typed-walk left c _ _ (first-le n) y) (pass-both (typed-walk left s _ _ (next-le c) z) (typed-walk left e _ _ (next-le s) w)))
 
   -- The records that the links reach from record n, in `left` generations at most.
   reached : ℕ → ℕ → ℕ

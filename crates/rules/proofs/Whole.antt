@@ -10,6 +10,7 @@ use lib.ListN.{length}
 use Rattle.rules.specs.Editions.{Edition, HasEveryKind}
 use Rattle.rules.specs.Terms.{Term, size, typeOf}
 use Rattle.rules.specs.Types.{Table, NoTwins}
+use Rattle.rules.specs.FieldUses.{given}
 use Rattle.rules.specs.Typing.{Typed}
 use Rattle.rules.specs.Values.{value}
 use Rattle.rules.specs.Steps.{Event, Step, Steps, still, more}
@@ -27,7 +28,7 @@ use Rattle.rules.proofs.Agree.{agree, deterministic, same-event, rests}
 use Rattle.rules.proofs.Progress.{goes}
 use Rattle.rules.proofs.Meaning.{exactly, unlike, root-size}
 use Rattle.rules.proofs.Laid.{length-laid}
-use Rattle.rules.proofs.Written.{back, term-passed, passed-table}
+use Rattle.rules.proofs.Written.{back, term-passed, layout-table}
 
 module _ (types : Table) where
   each-first : {t : Term} (P : Term → Type 0) → P t → EachTo types t 0 P
@@ -102,14 +103,14 @@ module _ (types : Table) where
 -- The run of a program that meets the rules.
 module _ (edition : Edition) (all : HasEveryKind edition) (program : List ℕ) (m : Meets edition program) (fuel : ℕ) where
   no-twins : NoTwins (tableOf program)
-  no-twins = unlike (tableOf program) (m .form .entries)
+  no-twins = unlike (tableOf program) (m .layout .form .entries)
 
   pub program-run : WholeRun edition (tableOf program) (firstTerm program) fuel (programCourse program fuel)
-  program-run = whole (tableOf program) edition no-twins (λ t h b. term-passed (tableOf program) t (passed-table edition program m) h b edition all)
-      fuel (firstTerm program) (m .form .typed) (omega (arith, root-size edition program m, m .counts .1 .0))
+  program-run = whole (tableOf program) edition no-twins (λ t h b. term-passed (tableOf program) t (layout-table given edition program (m .layout)) h b edition all)
+      fuel (firstTerm program) (m .typed) (omega (arith, root-size edition program m, m .layout .counts .1 .0))
 
   pub last-typed : Typed (tableOf program) [] 0 (programCourse program fuel .last) × (typeOf (programCourse program fuel .last) ≡ typeOf (firstTerm program))
-  last-typed = run-preserved (tableOf program) no-twins (program-run .makes .made) [] (m .form .typed)
+  last-typed = run-preserved (tableOf program) no-twins (program-run .makes .made) [] (m .typed)
 
   pub last-type : typeOf (programCourse program fuel .last) ≡ typeOf (firstTerm program)
   last-type = last-typed .1
@@ -120,16 +121,16 @@ module _ (edition : Edition) (all : HasEveryKind edition) (program : List ℕ) (
 -- Demand 3: every accepted run, whatever the buffers hold.
 module _ (edition : Edition) (all : HasEveryKind edition) (program : List ℕ) (fuel : ℕ) (out : List ℕ) (workLength : ℕ) (unrefused : runRefusal edition program (length out) workLength ≡ none) where
   m : Meets edition program
-  m = exactly edition program .0 (both-pass _ _ (both-pass _ _ unrefused .1) .1)
+  m = exactly edition program .0 (both-pass _ _ unrefused .1)
 
   pub demand-3 : Demand3 edition program fuel out workLength
   unfolding runAnswer runOutput
   demand-3 =
-      let table = passed-table edition program m in
+      let table = layout-table given edition program (m .layout) in
       let typed = last-typed edition all program m fuel .0 in
       let small = last-small edition all program m fuel in
       let b = back (tableOf program) (programCourse program fuel .last) table typed small in
-      let (o, _) = holds-unless _ outputShort 0 (both-pass _ _ unrefused .0) in
+      let (o, _) = holds-unless _ outputShort 0 (both-pass _ _ (both-pass _ _ unrefused .0) .0) in
       record {
         course = programCourse program fuel;
         whole = program-run edition all program m fuel;

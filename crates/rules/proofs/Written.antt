@@ -14,12 +14,12 @@ use Rattle.rules.specs.Editions.{Edition, HasEveryKind}
 use Rattle.rules.specs.Binders.{binds₁, binds₃}
 use Rattle.rules.specs.Types.{Table, Entry, noEntry, Nat}
 use Rattle.rules.specs.Conditions.{equal, Holds, same, between}
-use Rattle.rules.specs.FieldUses.{formed}
+use Rattle.rules.specs.FieldUses.{TypeFields, given, formed}
 use Rattle.rules.specs.Typing.{Env, under, bound, Typed}
 use Rattle.rules.specs.Format.{Record, mostTypes, mostRecords, tableOf}
 use Rattle.rules.specs.Links.{linked, laid, written, rootTree, firstTerm}
 use Rattle.rules.specs.Check.{kindRule, entryRule, naming}
-use Rattle.rules.specs.Meets.{MeetsForm, Meets}
+use Rattle.rules.specs.Meets.{MeetsForm, MeetsLayout, Meets}
 use Rattle.rules.specs.WholeRun.{Passed}
 use Rattle.rules.proofs.General.{all-append}
 use Rattle.rules.proofs.KindTable.{kind-range}
@@ -110,9 +110,9 @@ pub record GoodTable (types : Table) : Type 0 where
   pub few : length types ≤ mostTypes
   pub entries : (n : ℕ) → 1 ≤ n → n < 1 + length types → Holds (entryRule types n)
 
--- The table of a passed program is one.
-pub passed-table : (edition : Edition) (program : List ℕ) → Meets edition program → GoodTable (tableOf program)
-passed-table edition program m = let T = types-counted program in record { some = omega (arith, m .counts .0); few = omega (arith, m .counts .0); entries = m .form .entries }
+-- The table of a program of good layout is one.
+pub layout-table : (fields : TypeFields) (edition : Edition) (program : List ℕ) → MeetsLayout fields edition program → GoodTable (tableOf program)
+layout-table fields edition program m = let T = types-counted program in record { some = omega (arith, m .counts .0); few = omega (arith, m .counts .0); entries = m .form .entries }
 
 once-named : (rs : List Record) (m : ℕ) → naming rs m ≡ pick (eqb m 1) 0 1 → Holds (pick (eqb m 1) [] (equal (naming rs m) 1 ∷ []))
 once-named rs m h = go (eqb m 1) h
@@ -132,16 +132,16 @@ module _ (types : Table) (t : Term) (table : GoodTable types) (typed : Typed typ
   root-back : rootTree rs ≡ t
   root-back = tree-back rs (length rs) t 1 0 (omega arith) (omega (arith, length-laid 1 0 t)) laid-whole
 
-  records-meet : (edition : Edition) → HasEveryKind edition → MeetsForm edition types rs
+  records-meet : (edition : Edition) → HasEveryKind edition → MeetsForm given edition types rs
   records-meet edition all =
       let R : length rs ≡ size t = length-laid 1 0 t in
       let good = each-good rs edition all types t 1 0 [] 0 laid-whole typed in
       record {
         entries = table .entries;
         fielded = λ m a b. good m a (omega arith) .fielded;
+        unwritten = λ m a b. tt;
         linked = λ m a b. (good m a (omega arith) .first-good, (good m a (omega arith) .next-good, once-named rs m (named-once rs t laid-whole (sym R) m a b)));
         chained = λ m a b. good m a (omega arith) .chained;
-        typed = rw root-back typed;
       }
 
   pub back : Back types (laid 1 0 t)
@@ -149,15 +149,18 @@ module _ (types : Table) (t : Term) (table : GoodTable types) (typed : Typed typ
       (entries-fit types types 0 (table .few) (λ i h. let e : 0 + i ≡ i = omega arith in rw e (table .entries (suc i) (omega arith) (omega arith) .1)) (omega arith))
       (laid-fits types (table .few) t 1 0 [] 0 typed (omega arith) (omega arith) (omega arith))
 
-  pub written-meets : (edition : Edition) → HasEveryKind edition → Meets edition (written types t)
-  written-meets edition all = record {
-    counts = rw (back .typeCount-back, back .recordCount-back, length-laid) (omega (arith, size-some t));
-    exact = rw (back .typeCount-back, back .recordCount-back) (back .length-back);
-    form = rw (back .table-back, back .records-back) (records-meet edition all);
-  }
-
   pub read-back : firstTerm (written types t) ≡ t
   read-back = rw (back .records-back) root-back
+
+  pub written-meets : (edition : Edition) → HasEveryKind edition → Meets edition (written types t)
+  written-meets edition all = record {
+    layout = record {
+      counts = rw (back .typeCount-back, back .recordCount-back, length-laid) (omega (arith, size-some t));
+      exact = rw (back .typeCount-back, back .recordCount-back) (back .length-back);
+      form = rw (back .table-back, back .records-back) (records-meet edition all);
+    };
+    typed = rw (back .table-back, read-back) typed;
+  }
 
   pub term-passed : (edition : Edition) → HasEveryKind edition → Passed edition types t
   term-passed edition all = record {

@@ -8,13 +8,14 @@ use Rattle.rules.specs.Lists.{pick, total}
 use Rattle.rules.specs.Kinds.{Kind, leaf₀, unary₁, binary₂, ternary₃, kindOf}
 use Rattle.rules.specs.Editions.{Edition}
 use Rattle.rules.specs.Binders.{overFirst, overSecond}
+use Rattle.rules.specs.Terms.{Fields}
 use Rattle.rules.specs.Types.{Entry, Table, entry, Nat}
 use Rattle.rules.specs.Conditions.{below, equal, between, same, sameEntry, atLeast, Rule}
-use Rattle.rules.specs.FieldUses.{formed}
+use Rattle.rules.specs.FieldUses.{TypeFields, given, omitted, typeField, formedBesides}
 use Rattle.rules.specs.Typing.{Env, under, firstLevel, bound, placed, typed}
 use Rattle.rules.specs.Format.{Record, mostTypes, mostRecords, typeCount, recordCount, tableOf, recordsOf, recordNo}
 use Rattle.rules.specs.Links.{firstOf, nextOf}
-use Rattle.rules.specs.Refusals.{Refusal, programShort, badCounts, badLength, badEntry, badField, badLink, badChildren, badIndex, badLevel, badType, unless, _then_, lowest}
+use Rattle.rules.specs.Refusals.{Refusal, programShort, badCounts, badLength, badEntry, badField, badLink, badChildren, badIndex, badLevel, badType, typeWritten, unless, _then_, lowest}
 
 -- 4: "T type entries (1 to 256) and R records (1 to 2,048)".
 abbrev pub countsRule : ℕ → ℕ → Rule
@@ -35,8 +36,8 @@ abbrev pub entryRule : Table → ℕ → Rule
 entryRule types n = equal (alike types n) 0 ∷ kindRule n (entry types n)
 
 -- 7: the kind is one of the edition's, and its fields are good.
-abbrev pub fieldsRule : Edition → Table → Record → Rule
-fieldsRule edition types r = between 1 (r .kind) (edition .lastKind) ∷ formed types (kindOf (r .kind)) (r .fields)
+abbrev pub fieldsRule : TypeFields → Edition → Table → Record → Rule
+fieldsRule fields edition types r = between 1 (r .kind) (edition .lastKind) ∷ typeField fields types (r .fields .type) ∷ formedBesides types (kindOf (r .kind)) (r .fields)
 
 -- 8: "record that holds a bad link; record other than the root not named exactly once". A link is good that names its own number, or is 0 and
 -- names nothing: so are just those that are 0, or above their record's number and at most R (theorem `good-link`).
@@ -68,7 +69,12 @@ childrenRule rs n =
 abbrev pub typeNo : List Record → ℕ → ℕ
 typeNo rs n = recordNo rs n .fields .type
 
--- 10 to 12: "the first faulty record in preorder is named, with its lowest number of 10 to 12", in the tree of record n at level l under Γ.
+-- 10 to 12 of one record: "with its lowest number of 10 to 12". Record n has kind k and fields f and stands at level l under Γ; x, y and z are its
+-- children's types.
+unfoldable pub judged : Table → Env → ℕ → ℕ → Kind → Fields → ℕ → ℕ → ℕ → Option Refusal
+judged types Γ l n k f x y z = unless (bound Γ k f) badIndex n then unless (placed Γ l k f) badLevel n then unless (typed types Γ k f x y z) badType n
+
+-- "The first faulty record in preorder is named", in the tree of record n at level l under Γ.
 -- "Preorder is a record, then its children's trees in chain order": c, s and e are its children, a match's code, success and failure; 0 is no
 -- record, and has no tree. Only a match binds variables over its second child, its success, and "kinds 12 to 14 bind one level-0 variable", kind
 -- 11 two: so that child is walked under binders of level 0. `left` bounds the generations: links go up, so that
@@ -83,31 +89,38 @@ walked (suc left) types rs Γ l (suc m) =
     let c = firstOf rs n in
     let s = nextOf rs c in
     let e = nextOf rs s in
-    unless (bound Γ k f) badIndex n
-    then unless (placed Γ l k f) badLevel n
-    then unless (typed types Γ k f (typeNo rs c) (typeNo rs s) (typeNo rs e)) badType n
+    judged types Γ l n k f (typeNo rs c) (typeNo rs s) (typeNo rs e)
     then walked left types rs (under l (overFirst k f) Γ) (firstLevel k l) c
     then walked left types rs (under 0 (overSecond k f) Γ) l s
     then walked left types rs Γ l e
 
--- 6 to 12, of a table and records. "The root stands at level 0 under no binders."
-unfoldable pub refusalOf : Edition → Table → List Record → Option Refusal
-refusalOf edition types rs =
+-- 13: "a nonzero type field", where types are omitted.
+abbrev pub omittedRule : TypeFields → List Record → ℕ → Rule
+omittedRule given rs n = []
+omittedRule omitted rs n = equal (typeNo rs n) 0 ∷ []
+
+-- 6 to 9, of a table and records, and "13 .. right after 7, lowest record".
+unfoldable pub formRefusal : TypeFields → Edition → Table → List Record → Option Refusal
+formRefusal fields edition types rs =
     lowest (entryRule types) badEntry 1 (length types)
-    then lowest (λ n. fieldsRule edition types (recordNo rs n)) badField 1 (length rs)
+    then lowest (λ n. fieldsRule fields edition types (recordNo rs n)) badField 1 (length rs)
+    then lowest (omittedRule fields rs) typeWritten 1 (length rs)
     then lowest (linksRule rs) badLink 1 (length rs)
     then lowest (childrenRule rs) badChildren 1 (length rs)
-    then walked (length rs) types rs [] 0 1
 
--- 3 to 12, of a program of the edition; `none` where it is passed.
-unfoldable pub refusal : Edition → List ℕ → Option Refusal
-refusal edition bytes =
+-- 3 to 9, of a program of the edition, with 13: what is asked of it before its types are looked at.
+unfoldable pub layoutRefusal : TypeFields → Edition → List ℕ → Option Refusal
+layoutRefusal fields edition bytes =
     let T = typeCount bytes in
     let R = recordCount bytes in
     unless (atLeast 4 (length bytes) ∷ []) programShort 0
     then unless (countsRule T R) badCounts 0
     then unless (equal (length bytes) (4 + 6 * T + 16 * R) ∷ []) badLength 0
-    then refusalOf edition (tableOf bytes) (recordsOf bytes)
+    then formRefusal fields edition (tableOf bytes) (recordsOf bytes)
+
+-- 3 to 12, of a program of the edition; `none` where it is passed. "The root stands at level 0 under no binders."
+unfoldable pub refusal : Edition → List ℕ → Option Refusal
+refusal edition bytes = layoutRefusal given edition bytes then walked (length (recordsOf bytes)) (tableOf bytes) (recordsOf bytes) [] 0 1
 
 -- "Check takes a program and returns the root's type and R." "Every accepted answer has number and place 0." "A refusal returns number and
 -- place, its other fields 0."

@@ -61,6 +61,19 @@ uses (ternary₃ (match (matchShape matchLift))) = usesA aType
 uses (ternary₃ (match (matchShape matchFunction))) = usesA aType
 uses (ternary₃ (match (matchShape matchFix))) = usesA aType
 
--- The fields of a record of kind k are good.
+-- Whether a program's records have their types written, or, as document 02, N1 has it, omitted: "programs whose type fields are all 0, with
+-- binder types still given".
+pub data TypeFields : Type 0 where
+  given omitted : TypeFields
+
+-- What rule 7 asks of the type field. N1: "7 doesn't look at the type field".
+abbrev pub typeField : TypeFields → Table → ℕ → Condition
+typeField given types n = isEntry types n
+typeField omitted types n = anything
+
+-- The other fields of a record of kind k are good; and all of them.
+abbrev pub formedBesides : Table → Kind → Fields → Rule
+formedBesides types k f = field types (uses k .a) (f .a) ∷ field types (uses k .b) (f .b) ∷ field types (uses k .value) (f .value) ∷ []
+
 abbrev pub formed : Table → Kind → Fields → Rule
-formed types k f = isEntry types (f .type) ∷ field types (uses k .a) (f .a) ∷ field types (uses k .b) (f .b) ∷ field types (uses k .value) (f .value) ∷ []
+formed types k f = typeField given types (f .type) ∷ formedBesides types k f

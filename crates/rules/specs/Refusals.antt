@@ -47,9 +47,19 @@ badLevel = 11
 abbrev pub badType : ℕ
 badType = 12
 
--- A refusal is one of these twelve (theorem `one-of-twelve`).
+-- Document 02, N1: 13 a nonzero type field. 14 its type would be a 257th entry.
+abbrev pub typeWritten : ℕ
+typeWritten = 13
+
+abbrev pub tableFull : ℕ
+tableFull = 14
+
+-- A refusal is one of the numbers 1 to n: of check and run one of document 01's twelve (theorem `one-of-twelve`).
+abbrev pub NumberedTo : ℕ → Refusal → Type 0
+NumberedTo n r = (outputShort ≤ r .number) × (r .number ≤ n)
+
 abbrev pub OneOfTwelve : Refusal → Type 0
-OneOfTwelve r = (outputShort ≤ r .number) × (r .number ≤ badType)
+OneOfTwelve = NumberedTo badType
 
 -- Refused by number n at the place, unless the rule holds.
 unfoldable pub unless : Rule → ℕ → ℕ → Option Refusal

@@ -77,16 +77,18 @@ output types t = written types t
 abbrev pub writtenOver : List ℕ → List ℕ → List ℕ
 writtenOver buffer bytes = bytes ++ drop (length bytes) buffer
 
--- 1 and 2, of the output and work buffers' lengths, then check's.
+-- 1 and 2, of the lengths of the output and work buffers that a call is lent; then check's.
 abbrev pub outputNeeded : ℕ
 outputNeeded = 34308
 
 abbrev pub workNeeded : ℕ
 workNeeded = 65536
 
+abbrev pub buffersRefusal : ℕ → ℕ → Option Refusal
+buffersRefusal outLength workLength = unless (atLeast outputNeeded outLength ∷ []) outputShort 0 then unless (atLeast workNeeded workLength ∷ []) workShort 0
+
 abbrev pub runRefusal : Edition → List ℕ → ℕ → ℕ → Option Refusal
-runRefusal edition program outLength workLength =
-    unless (atLeast outputNeeded outLength ∷ []) outputShort 0 then unless (atLeast workNeeded workLength ∷ []) workShort 0 then refusal edition program
+runRefusal edition program outLength workLength = buffersRefusal outLength workLength then refusal edition program
 
 -- What a run answers.
 pub record RunAnswer : Type 0 where

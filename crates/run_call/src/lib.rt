@@ -6,11 +6,6 @@ ghost use Rattle.rules.specs.Run.{refused};
 ghost use Rattle.running.specs.Programs.{CanRunProgram};
 ghost use Rattle.run_call.specs.Answers.{runMeant, Accepted, Ran};
 
-// The bytes that a run needs of its output and its work buffer.
-pub const OUTPUT: usize = 34308;
-
-pub const WORK: usize = 65536;
-
 // What a run answers. Accepted: number and place are 0, ending is 1 for a value, 2 for spent fuel and 3 for a full table; the steps made, the
 // root's type and the written length. Refused: document 01's number and place, and the other fields 0.
 #[repr(C)]
@@ -58,16 +53,14 @@ fn accepted(program: &[u8], fuel: u32, output: &mut [u8], work: &mut [u8]) -> Ru
 pub fn run(program: &[u8], fuel: u32, output: &mut [u8], work: &mut [u8]) -> RunAnswer
     ensures { λ r. ⌜ Ran (now (program .entry)) fuel (now (output .entry)) (now (work .entry)) r (now (output .exit)) (now (work .exit)) ⌝ }
 {
-    if output.len() < OUTPUT {
-        return refusing(refusals::OUTPUT_SHORT, 0);
-    }
-    if work.len() < WORK {
-        return refusing(refusals::WORK_SHORT, 0);
+    let lent = lending::buffers_refusal(output.len(), work.len());
+    if lent.number != 0 {
+        return refusing(lent.number, lent.place);
     }
     let verdict = checker::program_refusal(program, kinds::first_edition());
     let number = verdict.number;
     if number != 0 {
         return refusing(number, verdict.place);
     }
-    accepted(program, fuel, output, &mut work[..WORK])
+    accepted(program, fuel, output, &mut work[..lending::WORK])
 }

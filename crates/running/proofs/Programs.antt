@@ -1,18 +1,19 @@
 -- `run_program`: a passed program from its bytes to the bytes that are written. `running-programs` for search.
-use Prim.Native.Nat.{ℕ, _+_, _*_, _-_, _≤_, _<_}
+use Prim.Native.Nat.{ℕ, _+_, _*_, _-_}
 use native.Mathlib.Omega.{arith}
 use mathlib.Core.List.{List, []}
 use mathlib.Core.Path.{_≡_, sym, ap, _∙_}
 use lib.ListN.{length, take, drop, length-take, length-drop}
 use Rattle.rules.specs.Editions.{Edition}
 use Rattle.rules.specs.Terms.{Term}
+use Rattle.rules.specs.FieldUses.{given}
 use Rattle.rules.specs.Format.{Record, typeCount, recordCount, tableOf, recordsOf}
 use Rattle.rules.specs.Links.{rootTree}
 use Rattle.rules.specs.Typing.{Typed}
 use Rattle.rules.specs.Meets.{Meets}
 use Rattle.rules.proofs.Meaning.{records-counted, root-size, unlike}
 use Rattle.records.specs.View.{entriesIn, recordsIn}
-use Rattle.records.proofs.Program.{program-table-slice, program-records-slice}
+use Rattle.records.proofs.Program.{layout-table-slice, layout-records-slice, layouts}
 use Rattle.records.proofs.Records.{records-length}
 use Rattle.terms.proofs.Loaded.{form-linked}
 use Rattle.steps.specs.declared.state.State.{State}
@@ -33,34 +34,25 @@ module _ (edition : Edition) (p out work : List ℕ) (h : CanRunProgram edition 
   m : Meets edition p
   m = h .meets
 
-  pub program-types : 0 + 1 < length p
-  program-types = omega (arith, m .exact)
-
-  pub program-count : 2 + 1 < length p
-  program-count = omega (arith, m .exact)
-
-  pub program-end : (T : ℕ) → T ≡ typeCount p → 4 + 6 * T ≤ length p
-  program-end T eT = omega (arith, m .exact)
-
   module _ (T R : ℕ) (eT : T ≡ typeCount p) (eR : R ≡ recordCount p) where
     table-is : tableOf p ≡ entriesIn (tablePart p T)
-    table-is = program-table-slice p (m .exact) (4 + 6 * T) (omega (arith, eT))
+    table-is = layout-table-slice given edition p (m .layout) T eT
 
     records-are : recordsOf p ≡ recordsIn (recordPart p T)
-    records-are = program-records-slice p (m .exact) (4 + 6 * T) (omega (arith, eT))
+    records-are = layout-records-slice given edition p (m .layout) T eT
 
     first-typed : Typed (entriesIn (tablePart p T)) [] 0 (rootTree (recordsIn (recordPart p T)))
-    first-typed = rw (← table-is, ← records-are) (m .form .typed)
+    first-typed = rw (← table-is, ← records-are) (m .typed)
 
     pub program-starts : CanStart (recordsIn (recordPart p T)) R (recordsIn work)
     program-starts = record {
       types = entriesIn (tablePart p T);
       typed = first-typed;
-      linked = form-linked edition (h .known) (tableOf p) (recordsIn (recordPart p T)) (rw (← records-are) (m .form));
+      linked = form-linked given edition (h .known) (tableOf p) (recordsIn (recordPart p T)) (rw (← records-are) (m .layout .form));
       whole = rw (← records-are) (root-size edition p m ∙ sym eR);
       counted = ap length (sym records-are) ∙ records-counted p ∙ sym eR;
-      some = omega (arith, eR, m .counts .1 .0);
-      few = omega (arith, eR, m .counts .1 .0);
+      some = omega (arith, eR, m .layout .counts .1 .0);
+      few = omega (arith, eR, m .layout .counts .1 .0);
       room = omega (arith, records-length work, h .long);
     }
 
@@ -72,7 +64,7 @@ module _ (edition : Edition) (p out work : List ℕ) (h : CanRunProgram edition 
       holds = st .holds (entriesIn (tablePart p T)) first-typed
 
       table-long : length (tablePart p T) ≡ 6 * T
-      table-long = omega (arith, length-take (4 + 6 * T - 4) (drop 4 p), length-drop 4 p, m .exact, eT)
+      table-long = omega (arith, length-take (4 + 6 * T - 4) (drop 4 p), length-drop 4 p, m .layout .exact, eT)
 
       pub program-finishes : CanFinish (tablePart p T) T rs₁ s out
       program-finishes = record {
@@ -81,15 +73,15 @@ module _ (edition : Edition) (p out work : List ℕ) (h : CanRunProgram edition 
           holds = holds;
           going = st .going;
           none = st .steps;
-          unlike = rw (← table-is) (unlike (tableOf p) (m .form .entries));
+          unlike = rw (← table-is) (unlike (tableOf p) (m .layout .form .entries));
         };
         entries = table-long;
-        some-types = omega (arith, eT, m .counts .0);
-        few-types = omega (arith, eT, m .counts .0);
+        some-types = omega (arith, eT, m .layout .counts .0);
+        few-types = omega (arith, eT, m .layout .counts .0);
         room = h .room;
       }
 
       pub program-runs : (fuel : ℕ) (out′ : List ℕ) (r : Completion) → Finishes (tablePart p T) fuel rs₁ s out out′ r → RunsProgram p fuel out out′ r
       program-runs fuel out′ r fi = record { does = rw (table-is, records-are) (fi .does first holds) }
 
-pub ruleset running-programs = (program-types, program-count, program-end, program-starts, program-finishes, program-runs)
+pub ruleset running-programs = (layouts, program-starts, program-finishes, program-runs)

@@ -1,39 +1,21 @@
--- The walk's definition, with a record's own checks as one: they come first, then the trees of its three children.
+-- The walk's definition: a record's own checks come first, then the trees of its three children.
 use Prim.Native.Nat.{ℕ, zero, suc, _≤_}
 use native.Mathlib.Omega.{arith}
-use mathlib.Core.Path.{_≡_, refl, sym, _∙_}
+use mathlib.Core.Path.{_≡_, refl, sym}
 use mathlib.Core.List.{List}
-use mathlib.Core.Option.{Option, none, some}
+use mathlib.Core.Option.{Option, none}
 use lib.ListN.{length}
-use Rattle.rules.specs.Kinds.{kindOf}
 use Rattle.rules.specs.Types.{Table}
 use Rattle.rules.specs.Binders.{overFirst, overSecond}
-use Rattle.rules.specs.Typing.{Env, under, firstLevel, bound, placed, typed}
-use Rattle.rules.specs.Format.{Record, recordNo}
+use Rattle.rules.specs.Typing.{Env, under, firstLevel}
+use Rattle.rules.specs.Format.{Record}
 use Rattle.rules.specs.Links.{firstOf, nextOf}
-use Rattle.rules.specs.Check.{typeNo, walked}
-use Rattle.rules.specs.Refusals.{Refusal, badIndex, badLevel, badType, unless, _then_}
+use Rattle.rules.specs.Check.{walked}
+use Rattle.rules.specs.Refusals.{Refusal, _then_}
 use Rattle.rules.proofs.Generations.{all-generations}
-use Rattle.judging.specs.Judging.{judged}
 use Rattle.typing.specs.Reading.{secondOf, thirdOf}
 use Rattle.typing.specs.Entering.{kindNo, fieldsNo}
 use Rattle.typing.specs.Walking.{judgedAt}
-
--- Three checks as one, then another.
-then-grouped : (x y z w : Option Refusal) → (x then (y then z)) then w ≡ x then (y then (z then w))
-unfolding _then_
-then-grouped none none none w = refl
-then-grouped none none (some r) w = refl
-then-grouped none (some r) z w = refl
-then-grouped (some r) y z w = refl
-
-judged-then : (types : Table) (Γ : Env) (l n : ℕ) (r : Record) (x y z : ℕ) (w : Option Refusal) →
-    let k = kindOf (r .kind) in
-    let f = r .fields in
-    judged types Γ l n r x y z then w
-    ≡ unless (bound Γ k f) badIndex n then (unless (placed Γ l k f) badLevel n then (unless (typed types Γ k f x y z) badType n then w))
-unfolding judged
-judged-then types Γ l n r x y z w = then-grouped _ _ _ w
 
 module _ (types : Table) (rs : List Record) (Γ : Env) (l : ℕ) where
   -- The checks of record n from the tree of its third child on, of its second, and of its first.
@@ -49,10 +31,7 @@ module _ (types : Table) (rs : List Record) (Γ : Env) (l : ℕ) where
   pub walked-by : (n : ℕ) → 1 ≤ n → n ≤ length rs → walked (length rs) types rs Γ l n ≡ judgedAt types rs Γ l n then fromFirst n
   unfolding walked judgedAt fromFirst fromSecond fromThird
   walked-by zero real within = absurd (omega arith)
-  walked-by (suc m) real within =
-      let n = suc m in
-      sym (all-generations types rs (suc (length rs)) n Γ l within (omega arith))
-      ∙ sym (judged-then types Γ l n (recordNo rs n) (typeNo rs (firstOf rs n)) (typeNo rs (secondOf rs n)) (typeNo rs (thirdOf rs n)) (fromFirst n))
+  walked-by (suc m) real within = sym (all-generations types rs (suc (length rs)) (suc m) Γ l within (omega arith))
 
   -- Nothing is said of no record.
   walked-nothing : (n : ℕ) → n ≡ 0 → walked (length rs) types rs Γ l n ≡ none

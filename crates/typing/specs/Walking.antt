@@ -9,19 +9,19 @@ use Rattle.rules.specs.Lists.{pick}
 use Rattle.rules.specs.Terms.{size}
 use Rattle.rules.specs.Types.{Table}
 use Rattle.rules.specs.Typing.{Env}
-use Rattle.rules.specs.Format.{Record, recordNo, mostRecords}
+use Rattle.rules.specs.Format.{Record, mostRecords}
 use Rattle.rules.specs.Links.{firstOf, treeOf}
 use Rattle.rules.specs.Refusals.{Refusal, badLink, badChildren, lowest}
-use Rattle.rules.specs.Check.{linksRule, childrenRule, typeNo, walked}
+use Rattle.rules.specs.Check.{linksRule, childrenRule, typeNo, judged, walked}
 use Rattle.refusals.specs.declared.Verdict.{Verdict}
 use Rattle.refusals.specs.Tells.{Tells}
 use Rattle.judging.specs.Stack.{stack}
-use Rattle.judging.specs.Judging.{judged}
 use Rattle.typing.specs.Reading.{CanRead, secondOf, thirdOf}
+use Rattle.typing.specs.Entering.{kindNo, fieldsNo}
 
 -- Record n is judged by what the records say of it and of its children.
 unfoldable pub judgedAt : Table → List Record → Env → ℕ → ℕ → Option Refusal
-judgedAt types rs Γ l n = judged types Γ l n (recordNo rs n) (typeNo rs (firstOf rs n)) (typeNo rs (secondOf rs n)) (typeNo rs (thirdOf rs n))
+judgedAt types rs Γ l n = judged types Γ l n (kindNo rs n) (fieldsNo rs n) (typeNo rs (firstOf rs n)) (typeNo rs (secondOf rs n)) (typeNo rs (thirdOf rs n))
 
 -- How many records the tree of record n has.
 abbrev pub treeSize : List Record → ℕ → ℕ

@@ -15,10 +15,10 @@ ghost use Rattle.typing.specs.Entering.{CanEnter, EntersFirst, EntersSec
 ghost use Rattle.typing.specs.Walking.{judgedAt, verdictIn, Packs, CanWalk, Walks, MakeTree};
 
 // A child of a record, where its tree is walked: its number, its level, and the depth of the binders over it.
-struct Child {
-    n: u16,
-    level: u16,
-    depth: usize,
+pub struct Child {
+    pub n: u16,
+    pub level: u16,
+    pub depth: usize,
 }
 
 // What the walk over a tree says is one number, which is handed back in a register: below this how many records are left after the tree, where
@@ -119,7 +119,7 @@ fn push_second(binders: &mut [u32], depth: usize, kind: u16, a: u16, b: u16) -> 
 }
 
 // The first child of record n, with what the record binds over it pushed.
-fn first_child(records: &[u8], binders: &mut [u32], depth: usize, level: u16, n: u16) -> Child
+pub fn first_child(records: &[u8], binders: &mut [u32], depth: usize, level: u16, n: u16) -> Child
     requires { ⌜ CanEnter (recordsIn (now records)) (now binders) depth n ⌝ }
     ensures { λ c. ⌜ EntersFirst (recordsIn (now (records .entry))) (now (binders .entry)) (now (binders .exit)) depth level n c ⌝ }
 {
@@ -132,7 +132,7 @@ fn first_child(records: &[u8], binders: &mut [u32], depth: usize, level: u16, n:
 }
 
 // The second child of record n, with what the record binds over it pushed.
-fn second_child(records: &[u8], binders: &mut [u32], depth: usize, level: u16, n: u16) -> Child
+pub fn second_child(records: &[u8], binders: &mut [u32], depth: usize, level: u16, n: u16) -> Child
     requires { ⌜ CanEnter (recordsIn (now records)) (now binders) depth n ⌝ }
     ensures { λ c. ⌜ EntersSecond (recordsIn (now (records .entry))) (now (binders .entry)) (now (binders .exit)) depth level n c ⌝ }
 {
@@ -145,7 +145,7 @@ fn second_child(records: &[u8], binders: &mut [u32], depth: usize, level: u16, n
 }
 
 // The third child of record n, over which nothing is bound.
-fn third_child(records: &[u8], n: u16) -> u16
+pub fn third_child(records: &[u8], n: u16) -> u16
     requires { ⌜ CanRead (recordsIn (now records)) n ⌝ }
     ensures { λ r. ⌜ IsThird (recordsIn (now (records .entry))) n r ⌝ }
 {

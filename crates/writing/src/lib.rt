@@ -87,7 +87,7 @@ pub fn write_tree(w: &[u8], i: usize, out: &mut [u8], state: Writer, next: u16) 
 }
 
 // Copies `from` over the bytes of `out` from place `at` on.
-fn copy_bytes(from: &[u8], out: &mut [u8], at: usize)
+pub fn copy_bytes(from: &[u8], out: &mut [u8], at: usize)
     requires { ⌜ at + length (now from) ≤ length (now out) ⌝ }
     ensures { λ _. ⌜ now (out .exit) ≡ overwritten (now (out .entry)) at (now (from .entry)) ⌝ }
 {

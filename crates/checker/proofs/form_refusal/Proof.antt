@@ -1,6 +1,6 @@
 -- `checker::form_refusal` meets its contract: the first check that refuses is the answer. Assumes nothing.
 use borrow.Author.Needs.{needs}
-use Rattle.checker.proofs.Ordering.{ordering, children-asked, walk-asked}
+use Rattle.checker.proofs.Ordering.{ordering, children-asked}
 use Rattle.checker.proofs.form_refusal.Statement.{statement}
 use Rattle.checker.proofs.form_refusal.Tie as tie
 
@@ -11,13 +11,10 @@ form-refusal-spec =
     (λ c. search (ordering, needs))  -- returns
     (λ c κs. search needs)  -- fields-refusal-requires
     (λ c. search (ordering, needs))  -- returns-2
-    (λ c κs. search needs)  -- links-refusal-requires
+    (λ c κs. search needs)  -- written-refusal-requires
     (λ c. search (ordering, needs))  -- returns-3
-    (λ c κs. children-asked _ _ _ (c .before .before .links-refusal .ensures) (c .if3 .left) (search needs) (search needs))  -- children-refusal-requires
+    (λ c κs. search needs)  -- links-refusal-requires
     (λ c. search (ordering, needs))  -- returns-4
-    (λ c κs.
-    let linked = c .before .before .before in
-    let given = linked .before .before .before .before .before .before .before .before .before .before .before .pre in
-    walk-asked _ _ _ (linked .before .before .links-refusal .ensures) (linked .if3 .left) (given .sized .records) (given .most) _ (c .before .before .children-refusal .ensures) (c .if4 .left) (given .some))  -- types-refusal-requires
+    (λ c κs. children-asked _ _ _ (c .before .before .links-refusal .ensures) (c .if4 .left) (search needs) (search needs))  -- children-refusal-requires
     (λ c. search (ordering, needs))  -- returns-5
     )

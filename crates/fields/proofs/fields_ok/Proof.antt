@@ -12,6 +12,7 @@ fields-ok-spec =
     (λ c κs. search (fielding, needs))  -- in-range-requires
     (λ c. search (fielding, needs))  -- cast-in-range-3
     (λ c κs. search (fielding, needs))  -- in-range-requires-2
+    (λ c κs. search (fielding, needs))  -- either-requires
     (λ c κs. search (fielding, needs))  -- use-of-a-requires
     (λ c. search (fielding, needs))  -- cast-field-ok
     (λ c κs. search (fielding, needs))  -- field-ok-requires

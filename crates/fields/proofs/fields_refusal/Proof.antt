@@ -2,7 +2,7 @@
 use Prim.Native.Nat.{_-_}
 use borrow.Author.Needs.{needs}
 use Rattle.rules.specs.Format.{recordNo}
-use Rattle.kinds.specs.Meant.{editionMeant}
+use Rattle.kinds.specs.Meant.{editionMeant, typeFieldsMeant}
 use Rattle.rules.specs.Refusals.{badField}
 use Rattle.rules.specs.Check.{fieldsRule}
 use Rattle.records.specs.View.{entriesIn, recordsIn}
@@ -13,10 +13,10 @@ use Rattle.fields.proofs.fields_refusal.Statement.{statement}
 use Rattle.fields.proofs.fields_refusal.Tie as tie
 
 abbrev Inv-loop : tie.InvT-loop
-Inv-loop table types records count edition n₀ n = Scanned (λ n. fieldsRule (editionMeant edition) (entriesIn table) (recordNo (recordsIn records) n)) badField count n
+Inv-loop table types records count edition given n₀ n = Scanned (λ n. fieldsRule (typeFieldsMeant given) (editionMeant edition) (entriesIn table) (recordNo (recordsIn records) n)) badField count n
 
 abbrev μ-loop : tie.MeasureT-loop
-μ-loop table types records count edition n₀ n = count - n
+μ-loop table types records count edition given n₀ n = count - n
 
 pub fields-refusal-spec : {M : Type 1} → statement M
 fields-refusal-spec =

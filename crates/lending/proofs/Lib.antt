@@ -1,0 +1,2 @@
+-- The laws of the lengths of lent buffers.
+pub mod Lengths
