@@ -11,7 +11,7 @@
 extern "C" {
 #endif
 
-/* The buffers that a run is lent have at least these lengths. */
+/* The buffers that infer and run are lent have at least these lengths. */
 #define MUNTINYARROW_OUTPUT 34308
 #define MUNTINYARROW_WORK 65536
 
@@ -22,6 +22,16 @@ struct muntinyarrow_check_answer {
     uint32_t place;
     uint32_t root_type;
     uint32_t records;
+};
+
+/* What infer answers. Accepted: number and place are 0, root_type is the root's type entry in the written table and written the length of the program
+ * in the output. Refused: number is 1 to 14, place as for check (0 for 1 and 2; for 13 and 14 the record of the program that was given), and the
+ * other fields are 0. */
+struct muntinyarrow_infer_answer {
+    uint32_t number;
+    uint32_t place;
+    uint32_t root_type;
+    uint32_t written;
 };
 
 /* What a run answers. Accepted: number and place are 0; ending is 1 for a value, 2 for spent fuel, 3 for a full table; steps is how many were
@@ -38,6 +48,12 @@ struct muntinyarrow_run_answer {
 
 /* Checks a program of any bytes. */
 struct muntinyarrow_check_answer muntinyarrow_check(const uint8_t *program, size_t length);
+
+/* Types a program of any bytes: its type fields are all 0, its binders' types are given. The output gets the same type table, the missing types
+ * after it, and the typed records in preorder; its bytes beyond the written length stay. After an accepted call the first 65,536 bytes of the work
+ * buffer hold what they may, and the others stay. A refused call changes no byte of either. */
+struct muntinyarrow_infer_answer muntinyarrow_infer(const uint8_t *program, size_t length, uint8_t *output, size_t output_length, uint8_t *work,
+                                                    size_t work_length);
 
 /* Runs a program of any bytes with the fuel. The output gets the same type table and the last term; its bytes beyond the written length stay. After
  * an accepted run the first 65,536 bytes of the work buffer hold what they may, and the others stay. A refused run changes no byte of either. */

@@ -1,11 +1,12 @@
 //! Muntinyarrow for Rust: a safe wrapper of libengine.a. Any slices may be given; the engine looks at their lengths itself.
 //! The calls keep no state: any number of them may go on at once, each with its own buffers.
+#![allow(dead_code)] // a program need not make every call
 
-/// The buffers that a run is lent have at least these lengths; shorter ones are refused, by 1 and 2.
+/// The buffers that infer and run are lent have at least these lengths; shorter ones are refused, by 1 and 2.
 pub const OUTPUT: usize = 34_308;
 pub const WORK: usize = 65_536;
 
-/// Document 01's number of a refusal, 1 to 12, and its place.
+/// The number of a refusal, 1 to 12 of document 01 and infer's 13 and 14 of document 02, and its place.
 #[derive(Clone, Copy, Debug, PartialEq, Eq)]
 pub struct Refusal {
     pub number: u32,
@@ -17,6 +18,14 @@ pub struct Refusal {
 pub struct Passed {
     pub root_type: u32,
     pub records: u32,
+}
+
+/// What infer answers for a program that it types: `written` is the length of the typed program at the start of the output, and `root_type` an
+/// entry of its table.
+#[derive(Clone, Copy, Debug, PartialEq, Eq)]
+pub struct Inferred {
+    pub root_type: u32,
+    pub written: usize,
 }
 
 #[derive(Clone, Copy, Debug, PartialEq, Eq)]
@@ -43,6 +52,20 @@ pub fn check(program: &[u8]) -> Result<Passed, Refusal> {
         return Err(Refusal { number: answer.number, place: answer.place });
     }
     Ok(Passed { root_type: answer.root_type, records: answer.records })
+}
+
+/// Types a program of any bytes, whose type fields are all 0 and whose binders' types are given. Output beyond the written length stays, and both
+/// buffers do where the call is refused. The first 65,536 bytes of the work buffer are then free.
+#[inline]
+pub fn infer(program: &[u8], output: &mut [u8], work: &mut [u8]) -> Result<Inferred, Refusal> {
+    // SAFETY: each pointer and length are those of a slice; the two that are written are borrowed mutably, and so are apart from all others.
+    let answer = unsafe {
+        muntinyarrow_infer(program.as_ptr(), program.len(), output.as_mut_ptr(), output.len(), work.as_mut_ptr(), work.len())
+    };
+    if answer.number != 0 {
+        return Err(Refusal { number: answer.number, place: answer.place });
+    }
+    Ok(Inferred { root_type: answer.root_type, written: answer.written as usize })
 }
 
 /// Runs a program of any bytes with the fuel. Output beyond the written length stays, and both buffers do where the run is refused.
@@ -73,6 +96,14 @@ struct CheckAnswer {
 }
 
 #[repr(C)]
+struct InferAnswer {
+    number: u32,
+    place: u32,
+    root_type: u32,
+    written: u32,
+}
+
+#[repr(C)]
 struct RunAnswer {
     number: u32,
     place: u32,
@@ -84,6 +115,14 @@ struct RunAnswer {
 
 extern "C" {
     fn muntinyarrow_check(program: *const u8, length: usize) -> CheckAnswer;
+    fn muntinyarrow_infer(
+        program: *const u8,
+        length: usize,
+        output: *mut u8,
+        output_length: usize,
+        work: *mut u8,
+        work_length: usize,
+    ) -> InferAnswer;
     fn muntinyarrow_run(
         program: *const u8,
         length: usize,

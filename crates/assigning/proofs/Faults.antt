@@ -1,0 +1,93 @@
+-- The number of what is wanted, and the fault of the record that has it: `assigning` for search.
+use Prim.Native.Nat.{ℕ, suc, _*_, _-_, _≤_, _<_}
+use native.Mathlib.Omega.{arith}
+use mathlib.Core.List.{List}
+use mathlib.Core.Option.{none, some}
+use mathlib.Core.Path.{_≡_, refl, ap, sym, _∙_}
+use lib.ListN.{length, take}
+use lib.Seq.{length-take-le}
+use borrow.Author.Tests.{lt-ltb, le-ltb}
+use Rattle.rules.specs.Kinds.{kindOf}
+use Rattle.rules.specs.Types.{Table}
+use Rattle.rules.specs.Typing.{Env}
+use Rattle.rules.specs.Format.{Record as MeantRecord, mostTypes}
+use Rattle.rules.specs.Refusals.{tableFull, unless}
+use Rattle.rules.specs.Check.{judged}
+use Rattle.inference.specs.Inference.{tableFor}
+use Rattle.records.specs.declared.Entry.{Entry}
+use Rattle.records.specs.declared.Record.{Record}
+use Rattle.records.specs.Meant.{entryMeant}
+use Rattle.records.specs.View.{entriesIn}
+use Rattle.records.proofs.Entries.{entries-length, entries-front}
+use Rattle.refusals.specs.declared.Verdict.{Verdict}
+use Rattle.refusals.specs.Tells.{Tells, refusalBy}
+use Rattle.refusals.proofs.Laws.{tells-first, tells-next}
+use Rattle.judging.specs.Stack.{stack}
+use Rattle.tables.specs.declared.Held.{Held}
+use Rattle.tables.specs.Having.{CanHave, Has}
+use Rattle.assigning.specs.declared.Candidate.{Candidate}
+use Rattle.assigning.specs.declared.Candidate.the-variants.{Known, Made}
+use Rattle.assigning.specs.Assigning.{wantedMeant, wantedFor, Wants, HasWanted, HasCandidate, faultIn, faultFor, Assigns}
+
+-- A number that is known, and that of an entry that is made.
+pub has-known : (es : Table) (types n : ℕ) → HasCandidate es es types (Known n) (record { number = n; types = types })
+unfolding wantedMeant
+has-known es types n = record { does = record { table = refl; number = refl; fits = omega arith; room = refl } }
+
+pub has-made : (es es′ : Table) (types : ℕ) (e : Entry) (r : Held) → Has es es′ types (entryMeant e) r → HasCandidate es es′ types (Made e) r
+unfolding wantedMeant
+has-made es es′ types e r h = record { does = record { table = h .table; number = h .number; fits = h .fits; room = h .room } }
+
+-- The record's own fault, then 14.
+module _ (types : Table) (count : ℕ) (Γ : Env) (l n : ℕ) (r : MeantRecord) (x y z : ℕ) (v : Verdict) (own : Tells v (judged types Γ l n (kindOf (r .kind)) (r .fields) x y z)) where
+  pub own-fault : (v .number ≡ 0 → ⊥) → Tells v (faultIn types count Γ l n r x y z)
+  unfolding faultIn
+  own-fault h = tells-first v _ _ own h
+
+  pub full-fault : v .number ≡ 0 → mostTypes < count → (q : Verdict) → Tells q (some (refusalBy tableFull n)) → Tells q (faultIn types count Γ l n r x y z)
+  unfolding faultIn unless
+  full-fault e h q t = tells-next v q _ _ own e (rw (le-ltb count (suc mostTypes) (omega arith)) t)
+
+  pub no-fault : v .number ≡ 0 → count ≤ mostTypes → (q : Verdict) → Tells q none → Tells q (faultIn types count Γ l n r x y z)
+  unfolding faultIn unless
+  no-fault e h q t = tells-next v q _ _ own e (rw (lt-ltb count (suc mostTypes) (omega arith)) t)
+
+-- What is wanted, given to the record; the parts of the buffer that are lent are the first entries.
+module _ (s : List ℕ) (types : ℕ) (can : CanHave (entriesIn s) types) where
+  -- So many bytes of the buffer are so many entries.
+  pub front-fits : 6 * types ≤ length s
+  front-fits = omega (arith, can .room, entries-length s)
+
+  pub front-long : 6 * types ≡ length (take (6 * types) s)
+  front-long = sym (length-take-le (6 * types) s front-fits)
+
+module _ (s s′ : List ℕ) (types : ℕ) (w : Candidate) (r : Held) (can : CanHave (entriesIn s) types) (has : HasCandidate (entriesIn s) (entriesIn s′) types w r) where
+  pub held-fits : 6 * r .types ≤ length s′
+  held-fits = omega (arith, can .room, has .does .fits, has .does .room, entries-length s′)
+
+  pub held-long : 6 * r .types ≡ length (take (6 * r .types) s′)
+  held-long = sym (length-take-le (6 * r .types) s′ held-fits)
+
+  -- The fault with the type that is held is the one that the definition has.
+  module _ (bs : List ℕ) (d l n : ℕ) (o : Record) (x y z : ℕ) (v : Verdict) (wants : Wants (entriesIn (take (6 * types) s)) (stack bs d) o x y w) where
+    abbrev A : Table
+    A = take types (entriesIn s)
+
+    wanted-is : wantedMeant w ≡ wantedFor A (stack bs d) o x y
+    wanted-is = wants .is ∙ ap (λ t. wantedFor t (stack bs d) o x y) (entries-front s types (front-fits s types can))
+
+    held-so : HasWanted (entriesIn s) (entriesIn s′) types (wantedFor A (stack bs d) o x y) (r .number) (r .types)
+    held-so = rw wanted-is at (has .does)
+
+    counted : r .types ≡ length (tableFor A (wantedFor A (stack bs d) o x y))
+    counted = sym (length-take-le (r .types) (entriesIn s′) (omega (arith, can .room, has .does .fits, has .does .room))) ∙ ap length (held-so .table)
+
+    pub assigns : Tells v (faultIn (entriesIn (take (6 * r .types) s′)) (r .types) (stack bs d) l n (record { kind = o .kind; fields = record { type = r .number; a = o .a; b = o .b; value = o .value }; first = o .first; next = o .next }) x y z)
+        → Assigns (entriesIn s) (entriesIn s′) types (stack bs d) l n o x y z (record { number = v .number; place = v .place; ty = r .number; types = r .types })
+    unfolding faultIn faultFor
+    assigns t = record {
+      tells = rw (← counted, ← held-so .table, ← held-so .number, ← entries-front s′ (r .types) held-fits) t;
+      held = held-so;
+    }
+
+pub ruleset assigning = (has-known, has-made, own-fault, full-fault, no-fault, front-fits, front-long, held-fits, held-long, assigns)

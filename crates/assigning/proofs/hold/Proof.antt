@@ -1,0 +1,15 @@
+use Rattle.assigning.proofs.Faults.{has-known, has-made, assigning}
+use borrow.Author.Needs.{needs}
+use Rattle.assigning.proofs.hold.Statement.{statement}
+use Rattle.assigning.proofs.hold.Tie as tie
+
+pub hold-spec : {M : Type 1} → statement M
+hold-spec =
+    tie.close (tie.spec
+    (λ c. search (assigning, needs))  -- enum-known-w
+    (λ c. search (assigning, needs))  -- enum-known-w-2
+    (λ c κs. search (assigning, needs))  -- have-requires
+    (λ c. rw (c .before .w .given .1) (has-known _ _ _))  -- returns
+    (λ c. search (assigning, needs))  -- same-length
+    (λ c. rw (c .before .before .before .before .before .w2 .given .1) (has-made _ _ _ _ _ (c .before .before .have .ensures)))  -- returns-2
+    )

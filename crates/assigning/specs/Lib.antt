@@ -1,0 +1,2 @@
+-- What it is to give a record its type.
+pub mod Assigning

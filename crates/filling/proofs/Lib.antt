@@ -1,0 +1,8 @@
+-- The laws of the walk that gives records their types: what an inference's fault is, the types by their places, how far the walk has come, what the
+-- children's trees come to, the walk itself, and the walk from the root.
+pub mod FaultLaws
+pub mod TypeLaws
+pub mod Coming
+pub mod Sequence
+pub mod FillLaws
+pub mod Whole

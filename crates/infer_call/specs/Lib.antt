@@ -1,0 +1,2 @@
+-- What the answer of infer means, and what infer ensures.
+pub mod Answers

@@ -1,0 +1,4 @@
+-- The laws of the crate.
+pub mod Types
+pub mod Putting
+pub mod TypedPrograms

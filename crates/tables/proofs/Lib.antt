@@ -1,0 +1,2 @@
+-- The laws of a table that grows.
+pub mod Lookup
