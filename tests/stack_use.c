@@ -1,5 +1,6 @@
-/* Measures the stack that check and run take on programs of up to 2,048 records that are as deep as they can be, each of another shape: deep from the
- * start, or deep in a part that a step copies. Prints each, and the largest of both calls. */
+/* Measures the stack that check, infer and run take on programs of up to 2,048 records that are as deep as they can be, each of another shape: deep
+ * from the start, or deep in a part that a step copies. Infer gets each without its types, and must write it with them. Prints each, and the largest
+ * of each call. */
 #define _GNU_SOURCE
 #include <stdio.h>
 #include <string.h>
@@ -20,11 +21,12 @@ struct node {
 
 static struct node nodes[2 * RECORDS];
 static int count;
-static unsigned char stack[STACK], program[4 + 6 * TYPES + 16 * RECORDS];
+static unsigned char stack[STACK], program[4 + 6 * TYPES + 16 * RECORDS], untyped[sizeof program];
 static size_t length;
 static unsigned char output[MUNTINYARROW_OUTPUT], work[MUNTINYARROW_WORK];
 static ucontext_t back, there;
 static struct muntinyarrow_check_answer checked;
+static struct muntinyarrow_infer_answer inferred;
 static struct muntinyarrow_run_answer run;
 
 static int node(int kind, int type, int a, unsigned value, int one, int two, int three) {
@@ -179,9 +181,16 @@ static void make_program(const struct shape *shape) {
             put16(program + 4 + 6 * i + 2 * j, entries[i][j]);
     write_tree(root, 1);
     length = 4 + 6 * TYPES + 16 * (size_t)count;
+    memcpy(untyped, program, length);
+    for (size_t at = 4 + 6 * TYPES; at < length; at += 16)
+        put16(untyped + at + 2, 0);
 }
 
 static void call_check(void) { checked = muntinyarrow_check(program, length); }
+
+static void call_infer(void) { inferred = muntinyarrow_infer(untyped, length, output, sizeof output, work, sizeof work); }
+
+static int typed(void) { return inferred.number == 0 && inferred.written == length && !memcmp(output, program, length); }
 
 static void call_run(void) { run = muntinyarrow_run(program, length, 3000, output, sizeof output, work, sizeof work); }
 
@@ -200,18 +209,24 @@ static size_t stack_of(void (*call)(void)) {
     return (size_t)STACK - untouched;
 }
 
+static size_t most(size_t one, size_t other) { return one > other ? one : other; }
+
 int main(void) {
-    size_t check_most = 0, run_most = 0;
-    int refused = 0;
+    size_t check_most = 0, infer_most = 0, run_most = 0;
+    int wrong = 0;
     for (size_t i = 0; i < sizeof shapes / sizeof *shapes; i++) {
         make_program(shapes + i);
-        size_t in_check = stack_of(call_check), in_run = stack_of(call_run);
-        printf("%s, %d records: number %u, ending %u, steps %u; %zu bytes of stack in check, %zu in run\n", shapes[i].name, count, checked.number,
-               run.ending, run.steps, in_check, in_run);
-        refused |= checked.number != 0 || run.number != 0 || count > RECORDS;
-        check_most = in_check > check_most ? in_check : check_most;
-        run_most = in_run > run_most ? in_run : run_most;
+        size_t in_check = stack_of(call_check), in_infer = stack_of(call_infer);
+        wrong |= checked.number != 0 || !typed() || count > RECORDS;
+        size_t in_run = stack_of(call_run);
+        wrong |= run.number != 0;
+        printf("%s, %d records: numbers %u %u %u, ", shapes[i].name, count, checked.number, inferred.number, run.number);
+        printf("ending %u, steps %u; ", run.ending, run.steps);
+        printf("%zu bytes of stack in check, %zu in infer, %zu in run\n", in_check, in_infer, in_run);
+        check_most = most(check_most, in_check);
+        infer_most = most(infer_most, in_infer);
+        run_most = most(run_most, in_run);
     }
-    printf("the largest: %zu bytes of stack in check, %zu in run\n", check_most, run_most);
-    return refused;
+    printf("the largest: %zu bytes of stack in check, %zu in infer, %zu in run\n", check_most, infer_most, run_most);
+    return wrong;
 }

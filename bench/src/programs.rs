@@ -19,6 +19,10 @@ impl Term {
         Term { kind, written_type, a: 0, b: 0, value: 0, children, records }
     }
 
+    pub fn written_type(&self) -> u16 {
+        self.written_type
+    }
+
     fn write(&self, number: usize, next: usize, bytes: &mut Vec<u8>) {
         let first = if self.children.is_empty() { 0 } else { number + 1 };
         for field in [self.kind, self.written_type, self.a, self.b, first as u16, next as u16] {
@@ -169,6 +173,15 @@ impl Builder {
 /// The count of records that a program states.
 pub fn stated_records(program: &[u8]) -> usize {
     usize::from(u16::from_le_bytes([program[2], program[3]]))
+}
+
+/// A program without its types, under the first so many entries of its table, which have to hold the types of its binders.
+pub fn untyped(program: &[u8], types: u16) -> Vec<u8> {
+    let stated_types = usize::from(u16::from_le_bytes([program[0], program[1]]));
+    let (table, records) = program[4..].split_at(6 * stated_types);
+    let mut records = records.to_vec();
+    records.chunks_exact_mut(16).for_each(|record| record[2..4].fill(0));
+    [&types.to_le_bytes()[..], &program[2..4], &table[..6 * usize::from(types)], &records].concat()
 }
 
 /// The 16-bit fields of a record that faults are put into, by their places in it.

@@ -1,6 +1,7 @@
-//! Times both engines side by side and prints two tables: runs by the step, checks and refusals by the call.
+//! Times both engines side by side and prints three tables: runs by the step; checks, infers and refusals by the call; and what infer takes beside
+//! the check of what it writes.
 //! Arguments, both optional: a part of the workloads' names; `ours`, to leave the other engine out.
-use bench::muntinyarrow::{self, Passed, Ran, Refusal, OUTPUT, WORK};
+use bench::muntinyarrow::{self, Inferred, Passed, Ran, Refusal, OUTPUT, WORK};
 use bench::programs::stated_records;
 use bench::reference;
 use bench::workloads::{self, Call, Expected, Workload};
@@ -13,16 +14,18 @@ const STACK: usize = 256 << 20;
 /// What buffers hold before the engines are compared, so that bytes beyond the written ones are seen to stay.
 const UNTOUCHED: u8 = 0xA5;
 
-/// The answer of either engine to either call.
+/// The answer of either engine to any call.
 #[derive(Clone, Copy, Debug, PartialEq, Eq)]
 enum Answer {
     Passed(Passed),
+    Inferred(Inferred),
     Ran(Ran),
     Refused(Refusal),
 }
 
 trait Engine {
     fn check(program: &[u8]) -> Answer;
+    fn infer(program: &[u8], output: &mut [u8], work: &mut [u8]) -> Answer;
     fn run(program: &[u8], fuel: u32, output: &mut [u8], work: &mut [u8]) -> Answer;
 }
 
@@ -32,6 +35,10 @@ struct Theirs;
 impl Engine for Ours {
     fn check(program: &[u8]) -> Answer {
         checked(muntinyarrow::check(program))
+    }
+
+    fn infer(program: &[u8], output: &mut [u8], work: &mut [u8]) -> Answer {
+        inferred(muntinyarrow::infer(program, output, work))
     }
 
     fn run(program: &[u8], fuel: u32, output: &mut [u8], work: &mut [u8]) -> Answer {
@@ -44,6 +51,10 @@ impl Engine for Theirs {
         checked(reference::check(program))
     }
 
+    fn infer(program: &[u8], output: &mut [u8], work: &mut [u8]) -> Answer {
+        inferred(reference::infer(program, output, work))
+    }
+
     fn run(program: &[u8], fuel: u32, output: &mut [u8], work: &mut [u8]) -> Answer {
         ran(reference::run(program, fuel, output, work))
     }
@@ -51,6 +62,10 @@ impl Engine for Theirs {
 
 fn checked(answer: Result<Passed, Refusal>) -> Answer {
     answer.map_or_else(Answer::Refused, Answer::Passed)
+}
+
+fn inferred(answer: Result<Inferred, Refusal>) -> Answer {
+    answer.map_or_else(Answer::Refused, Answer::Inferred)
 }
 
 fn ran(answer: Result<Ran, Refusal>) -> Answer {
@@ -71,6 +86,7 @@ impl Buffers {
 fn call<E: Engine>(workload: &Workload, program: &[u8], buffers: &mut Buffers) -> Answer {
     match workload.call {
         Call::Check => E::check(program),
+        Call::Infer => E::infer(program, &mut buffers.output, &mut buffers.work),
         Call::Run => E::run(program, workload.fuel, &mut buffers.output, &mut buffers.work),
         Call::ShortRun => E::run(program, workload.fuel, &mut buffers.output[..OUTPUT - 1], &mut buffers.work),
     }
@@ -110,6 +126,7 @@ fn expect(workload: &Workload, given: &[Answer], size: &Size) {
     for answer in given {
         let good = match (workload.expected, *answer) {
             (Expected::Passed, Answer::Passed(_)) => true,
+            (Expected::Inferred { written }, Answer::Inferred(inferred)) => inferred.written == written,
             (Expected::Ended { ending, .. }, Answer::Ran(ran)) => ran.ending == ending,
             (Expected::Refused { number, place }, Answer::Refused(refusal)) => refusal == Refusal { number, place },
             _ => false,
@@ -189,6 +206,24 @@ fn call_row(workload: &Workload, size: &Size, timing: &Timing) -> String {
     format!("| {name} | {records} | {ours} | {theirs} | {our_record} | {ratio} |")
 }
 
+/// The check of what infer writes for a workload.
+fn check_of(workload: &Workload) -> Workload {
+    let typed = |program: &Vec<u8>| {
+        let mut buffers = Buffers::new();
+        let Answer::Inferred(inferred) = call::<Ours>(workload, program, &mut buffers) else { unreachable!("the answer is known") };
+        buffers.output[..inferred.written].to_vec()
+    };
+    Workload { programs: workload.programs.iter().map(typed).collect(), call: Call::Check, expected: Expected::Passed, ..*workload }
+}
+
+fn infer_row(workload: &Workload, size: &Size, infer: &Timing) -> String {
+    let (name, calls, records) = (workload.name, workload.programs.len() as f64, size.records);
+    let check = timing(&check_of(workload), false);
+    let ratio = cell(Some(infer.ours / check.ours), 2);
+    let [infer, check] = [infer.ours, check.ours].map(|pass| cell(Some(pass / calls), 1));
+    format!("| {name} | {records} | {infer} | {check} | {ratio} |")
+}
+
 fn processor() -> String {
     let text = std::fs::read_to_string("/proc/cpuinfo").unwrap_or_default();
     let line = text.lines().find(|line| line.starts_with("model name"));
@@ -197,7 +232,7 @@ fn processor() -> String {
 
 fn measure(part: &str, both: bool) {
     println!("Processor: {}; medians of {SAMPLES} samples. Records are those of the first or the last term, whichever has more.", processor());
-    let (mut runs, mut calls) = (Vec::new(), Vec::new());
+    let (mut runs, mut calls, mut infers) = (Vec::new(), Vec::new(), Vec::new());
     for workload in workloads::all().iter().filter(|workload| workload.name.contains(part)) {
         let (given, size) = answers(workload, both);
         expect(workload, &given, &size);
@@ -206,12 +241,17 @@ fn measure(part: &str, both: bool) {
             Expected::Ended { .. } => runs.push(run_row(workload, &size, &timing)),
             _ => calls.push(call_row(workload, &size, &timing)),
         }
+        if let Expected::Inferred { .. } = workload.expected {
+            infers.push(infer_row(workload, &size, &timing));
+        }
     }
     assert!(!runs.is_empty() || !calls.is_empty(), "no workload has {part:?} in its name");
     println!("\n| run | steps | records | ours ns/step | theirs ns/step | ours ns/record/step | theirs ns/record/step | ours/theirs |");
     println!("|---|---|---|---|---|---|---|---|\n{}", runs.join("\n"));
-    println!("\n| check or refusal | records | ours ns/call | theirs ns/call | ours ns/record | ours/theirs |");
+    println!("\n| check, infer or refusal | records | ours ns/call | theirs ns/call | ours ns/record | ours/theirs |");
     println!("|---|---|---|---|---|---|\n{}", calls.join("\n"));
+    println!("\n| ours | records | infer ns/call | check ns/call of what it writes | infer/check |");
+    println!("|---|---|---|---|---|\n{}", infers.join("\n"));
 }
 
 fn main() {

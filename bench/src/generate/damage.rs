@@ -3,23 +3,24 @@ use super::layout::Draft;
 use crate::random::Random;
 use crate::reference::format::{child_count, kind, Record, HEADER_BYTES, RECORD_BYTES, TYPE_BYTES};
 
-/// The weights of the sorts of changes.
-const SORTS: [usize; 12] = [10, 8, 20, 30, 8, 25, 12, 12, 12, 15, 20, 25];
+/// The weights of the sorts of changes to programs with types, and to those without.
+pub const SORTS: [usize; 12] = [10, 8, 20, 30, 8, 25, 12, 12, 12, 15, 20, 25];
+pub const UNTYPED_SORTS: [usize; 12] = [10, 8, 40, 8, 4, 30, 10, 10, 12, 10, 40, 18];
 
-/// A program with one or several changes.
-pub fn damaged(mut draft: Draft, random: &mut Random) -> Vec<u8> {
-    let sort = random.weighted(&SORTS);
+/// A program with one or several changes, of sorts by their weights.
+pub fn damaged(mut draft: Draft, sorts: &[usize; 12], random: &mut Random) -> Vec<u8> {
+    let sort = random.weighted(sorts);
     let changes = match random.weighted(&[60, 35, 5]) {
         0 => 1,
         1 => random.between(2, 5),
         _ => draft.records.len(),
     };
     for _ in 0..changes {
-        let sort = if random.percent(80) { sort } else { random.weighted(&SORTS) };
+        let sort = if random.percent(80) { sort } else { random.weighted(sorts) };
         change(&mut draft, sort, random);
     }
     let mut bytes = draft.bytes();
-    if sort == SORTS.len() - 1 {
+    if sort == sorts.len() - 1 {
         change_bytes(&mut bytes, random);
     }
     bytes
@@ -83,15 +84,21 @@ fn change_kind(draft: &mut Draft, index: usize, random: &mut Random, keep_childr
     let old = draft.records[index];
     let kinds: Vec<u16> = (kind::NUMBER..=kind::MATCH_FIX).filter(|&kind| !keep_children || child_count(kind) == child_count(old.kind)).collect();
     let Some(kind) = random.pick(&kinds) else { return };
-    let mut record = Record { kind, ty: old.ty, first: old.first, next: old.next, ..Record::default() };
+    draft.records[index] = Record { ty: old.ty, first: old.first, next: old.next, ..fitting_record(kind, draft.types.len(), 6, random) };
+}
+
+/// A record of a kind without type and links: what it names is one of so many types, and its index below the limit.
+pub fn fitting_record(kind: u16, types: usize, indices: usize, random: &mut Random) -> Record {
+    let mut record = Record { kind, ..Record::default() };
+    let mut some_type = || random.between(1, types) as u16;
     match kind {
         kind::NUMBER | kind::MATCH_NUMBER => record.value = random.below(4) as u32,
-        kind::VARIABLE | kind::MATCH_VARIABLE => record.a = random.below(6) as u16,
-        kind::FUNCTION | kind::MATCH_LIFT..=kind::MATCH_FIX => record.a = some_type(draft, random),
-        kind::MATCH_APPLICATION => (record.a, record.b) = (some_type(draft, random), some_type(draft, random)),
+        kind::VARIABLE | kind::MATCH_VARIABLE => record.a = random.below(indices) as u16,
+        kind::FUNCTION | kind::MATCH_LIFT..=kind::MATCH_FIX => record.a = some_type(),
+        kind::MATCH_APPLICATION => (record.a, record.b) = (some_type(), some_type()),
         _ => {}
     }
-    draft.records[index] = record;
+    record
 }
 
 /// From a record on, gives all records of its type another type.

@@ -1,10 +1,13 @@
 //! Programs for the engines: valid ones with real runs, damaged ones, and random bytes.
 mod damage;
 mod layout;
+mod loose;
 mod matches;
 mod slips;
+mod tables;
 mod terms;
 mod types;
+pub mod untyped;
 
 use crate::random::Random;
 use crate::reference::format::{kind, Type, MAX_RECORDS};
@@ -18,7 +21,7 @@ pub fn program(random: &mut Random) -> Vec<u8> {
         0 => draft(random, 0).bytes(),
         1 => {
             let draft = draft(random, 0);
-            damage::damaged(draft, random)
+            damage::damaged(draft, &damage::SORTS, random)
         }
         2 => {
             let slips = [2, 10, 50, 200][random.below(4)];

@@ -1,4 +1,4 @@
-//! The program form: a program's bytes as a type table and records, with the checks 3 to 9.
+//! The program form: a program's bytes as a type table and records, with the checks 3 to 9, and 13 of a program without types.
 use super::Refusal;
 
 pub const MAX_TYPES: usize = 256;
@@ -32,6 +32,9 @@ pub enum Type {
     Function(u16, u16),
     Code(u16),
 }
+
+/// The number of Nat in every table: the first entry has no earlier ones for its parts.
+pub const NAT: u16 = 1;
 
 /// The type table.
 #[derive(Clone, Debug, Default)]
@@ -99,19 +102,61 @@ impl Program {
         let link = |number: u16| (number != 0).then_some(number);
         std::iter::successors(link(self.record(number).first), move |&child| link(self.record(child).next))
     }
+
+    /// Writes the program as it stands; gives the length.
+    pub fn write(&self, output: &mut [u8]) -> usize {
+        let (head, records) = output.split_at_mut(head_bytes(&self.types));
+        write_head(&self.types, self.records.len(), head);
+        for (bytes, record) in records.chunks_exact_mut(RECORD_BYTES).zip(&self.records) {
+            record.write(bytes);
+        }
+        head.len() + RECORD_BYTES * self.records.len()
+    }
 }
 
-/// Reads a program, or gives the first refusal of 3 to 9.
-pub fn parse(bytes: &[u8]) -> Result<Program, Refusal> {
+/// What the type fields of a program's records are to hold.
+#[derive(Clone, Copy, PartialEq, Eq)]
+pub enum TypeFields {
+    Entries,
+    Zeros,
+}
+
+/// Reads a program, or gives the first refusal of 3 to 9, with 13 after 7 where the type fields are to be zeros.
+pub fn parse(bytes: &[u8], type_fields: TypeFields) -> Result<Program, Refusal> {
     let (entries, records) = sections(bytes)?;
     let types = parse_types(entries)?;
     let records: Vec<Record> = records.chunks_exact(RECORD_BYTES).map(Record::read).collect();
-    refuse_lowest(7, records.iter().map(|record| fields_fit(record, types.0.len())))?;
+    refuse_lowest(7, records.iter().map(|record| fields_fit(record, types.0.len(), type_fields)))?;
+    if type_fields == TypeFields::Zeros {
+        refuse_lowest(13, records.iter().map(|record| record.ty == 0))?;
+    }
     refuse_lowest(8, links_fit(&records).into_iter())?;
     let program = Program { types, records };
     let numbers = 1..=program.records.len() as u16;
     refuse_lowest(9, numbers.map(|number| program.children(number).count() == child_count(program.record(number).kind)))?;
     Ok(program)
+}
+
+/// The length of the counts and the type table.
+pub fn head_bytes(types: &Types) -> usize {
+    HEADER_BYTES + TYPE_BYTES * types.0.len()
+}
+
+/// Writes the counts and the type table of a program of so many records.
+pub fn write_head(types: &Types, records: usize, head: &mut [u8]) {
+    let (counts, entries) = head.split_at_mut(HEADER_BYTES);
+    counts[..2].copy_from_slice(&(types.0.len() as u16).to_le_bytes());
+    counts[2..].copy_from_slice(&(records as u16).to_le_bytes());
+    for (entry, ty) in entries.chunks_exact_mut(TYPE_BYTES).zip(&types.0) {
+        let fields = match *ty {
+            Type::Nat => [1, 0, 0],
+            Type::Function(a, b) => [2, a, b],
+            Type::Code(a) => [3, a, 0],
+        };
+        for (place, field) in entry.chunks_exact_mut(2).zip(fields) {
+            place.copy_from_slice(&field.to_le_bytes());
+        }
+    }
 }
 
 /// Refuses the first place whose check failed.
@@ -179,15 +224,19 @@ fn field_uses(kind: u16) -> Option<[Field; 3]> {
     }
 }
 
-fn fields_fit(record: &Record, type_count: usize) -> bool {
+/// Kind, a, b and value, and the type field where it is to name an entry.
+fn fields_fit(record: &Record, type_count: usize, type_fields: TypeFields) -> bool {
     let is_type = |number: u32| number != 0 && number as usize <= type_count;
+    if type_fields == TypeFields::Entries && !is_type(record.ty.into()) {
+        return false;
+    }
     let Some(uses) = field_uses(record.kind) else { return false };
     let fits = |(field, content): (Field, u32)| match field {
         Field::Unused => content == 0,
         Field::Free => true,
         Field::Type => is_type(content),
     };
-    is_type(record.ty.into()) && uses.into_iter().zip([record.a.into(), record.b.into(), record.value]).all(fits)
+    uses.into_iter().zip([record.a.into(), record.b.into(), record.value]).all(fits)
 }
 
 /// For each record: it holds no bad link and, the root apart, is named exactly once.

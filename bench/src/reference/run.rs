@@ -1,5 +1,5 @@
 //! The run: evaluation at level 0, generation at level 1, and the writing of the last term.
-use super::format::{kind, Program, Record, Type, Types, HEADER_BYTES, RECORD_BYTES, TYPE_BYTES};
+use super::format::{head_bytes, kind, write_head, Program, Record, Types, RECORD_BYTES};
 use super::steps;
 use super::term::{Node, Pattern, Term};
 use super::{Ending, Ran};
@@ -79,22 +79,10 @@ impl Machine<'_> {
 
 /// Writes a term of `size` records in preorder, after its type table; gives the length.
 pub fn write_program(types: &Types, term: &Term, size: usize, output: &mut [u8]) -> usize {
-    let (header, rest) = output.split_at_mut(HEADER_BYTES);
-    header[..2].copy_from_slice(&(types.0.len() as u16).to_le_bytes());
-    header[2..].copy_from_slice(&(size as u16).to_le_bytes());
-    let (entries, records) = rest.split_at_mut(TYPE_BYTES * types.0.len());
-    for (entry, ty) in entries.chunks_exact_mut(TYPE_BYTES).zip(&types.0) {
-        let fields = match *ty {
-            Type::Nat => [1, 0, 0],
-            Type::Function(a, b) => [2, a, b],
-            Type::Code(a) => [3, a, 0],
-        };
-        for (place, field) in entry.chunks_exact_mut(2).zip(fields) {
-            place.copy_from_slice(&field.to_le_bytes());
-        }
-    }
+    let (head, records) = output.split_at_mut(head_bytes(types));
+    write_head(types, size, head);
     write_tree(term, 1, false, records);
-    HEADER_BYTES + TYPE_BYTES * types.0.len() + RECORD_BYTES * size
+    head.len() + RECORD_BYTES * size
 }
 
 /// Writes a tree whose root has this number; gives the number after its last record.

@@ -1,8 +1,9 @@
-//! The bench sheet K1 to K11, and the small inputs of the refusals.
-use super::format::{Type, Types};
+//! The bench sheet K1 to K11, the small inputs of the refusals, and infer: what it appends and writes, and what it names first.
+use super::format::{kind, Program, Record, Type, Types};
 use super::run::write_program;
 use super::term::{Application, Match, Node, Pattern, Term};
-use super::{check, run, Ending, Ran, Refusal, OUTPUT, WORK};
+use super::{check, infer, run, Ending, Inferred, Ran, Refusal, OUTPUT, WORK};
+use crate::programs::untyped;
 
 const NAT: u16 = 1;
 const FN: u16 = 2; // Nat to Nat
@@ -159,4 +160,106 @@ fn small_inputs_of_the_refusals() {
     let passed = program(&number(1));
     assert_eq!(run(&passed, 1, &mut vec![0; OUTPUT - 1], &mut []), Err(Refusal { number: 1, place: 0 }));
     assert_eq!(run(&passed, 1, &mut vec![0; OUTPUT], &mut vec![0; WORK - 1]), Err(Refusal { number: 2, place: 0 }));
+}
+
+/// A program without types, by the table and each record's kind, a, first and next.
+fn untyped_file(types: &[Type], records: &[[u16; 4]]) -> Vec<u8> {
+    let record = |&[kind, a, first, next]: &[u16; 4]| Record { kind, a, first, next, ..Record::default() };
+    let program = Program { types: Types(types.to_vec()), records: records.iter().map(record).collect() };
+    let mut bytes = vec![0; OUTPUT];
+    let length = program.write(&mut bytes);
+    bytes.truncate(length);
+    bytes
+}
+
+/// What infer answers and writes.
+fn inferred(program: &[u8]) -> Result<(Inferred, Vec<u8>), (u32, u32)> {
+    let mut output = vec![0; OUTPUT];
+    let answer = infer(program, &mut output, &mut vec![0; WORK]).map_err(|Refusal { number, place }| (number, place))?;
+    output.truncate(answer.written);
+    Ok((answer, output))
+}
+
+fn refused(types: &[Type], records: &[[u16; 4]]) -> Option<(u32, u32)> {
+    inferred(&untyped_file(types, records)).err()
+}
+
+/// A full table: Nat, then functions from Nat to the entry before.
+fn full_table() -> Vec<Type> {
+    let function = |number: u16| Type::Function(NAT, number);
+    std::iter::once(Type::Nat).chain((1..256).map(function)).collect()
+}
+
+#[test]
+fn infer_gives_cleared_types_back() {
+    let code = Term::quote(CODE_FN, identity());
+    let success = apply(CODE, variable(CODE_TO_CODE, 0), Term::quote(CODE, number(7)));
+    let matched = matching(Pattern::Function(CODE_TO_CODE), code, success, Term::quote(CODE, number(0)));
+    for term in [number(3), fix(identity()), matched] {
+        let typed = program(&term);
+        let (answer, written) = inferred(&untyped(&typed, types().0.len() as u16)).expect("it has types");
+        assert_eq!((answer.root_type, answer.written), (term.ty.into(), typed.len()));
+        assert_eq!(written, typed);
+    }
+}
+
+#[test]
+fn infer_appends_missing_types_in_the_order_of_typing() {
+    let applied = apply(NAT, function(FN_TO_NAT, FN, number(1)), identity());
+    let term = Term::quote(CODE, applied);
+    let (answer, written) = inferred(&untyped(&program(&term), FN)).expect("it has types");
+    let typed = check(&written).expect("it passes");
+    assert_eq!((answer.root_type, typed.root_type, typed.records), (4, 4, 6));
+    assert_eq!(written[..4 + 6 * 4], [4, 0, 6, 0, 1, 0, 0, 0, 0, 0, 2, 0, 1, 0, 1, 0, 2, 0, 2, 0, 1, 0, 3, 0, 1, 0, 0, 0]);
+}
+
+#[test]
+fn infer_writes_in_preorder_and_names_the_files_record() {
+    let application = [[kind::APPLICATION, 0, 2, 0], [kind::FUNCTION, NAT, 4, 3], [kind::NUMBER, 0, 0, 0], [kind::VARIABLE, 0, 0, 0]];
+    let (_, written) = inferred(&untyped_file(&[Type::Nat], &application)).expect("it has types");
+    assert_eq!(written, [&[2, 0, 4, 0, 1, 0, 0, 0, 0, 0, 2, 0, 1, 0, 1, 0][..], &program(&apply(NAT, identity(), number(0)))[4 + 6 * 7..]].concat());
+    let mut free = application;
+    free[3][1] = 1;
+    assert_eq!(refused(&[Type::Nat], &free), Some((10, 4)));
+}
+
+#[test]
+fn infer_looks_at_fields_then_types_then_links() {
+    let mut typed = program(&fix(identity()));
+    assert_eq!(inferred(&typed).err(), Some((13, 1)));
+    let records = 4 + 6 * types().0.len();
+    typed[records + 2] = 0;
+    assert_eq!(inferred(&typed).err(), Some((13, 2)));
+    typed[records + 8] = 9;
+    assert_eq!(inferred(&typed).err(), Some((13, 2)));
+    typed[records + 2 * 16] = 15;
+    assert_eq!(inferred(&typed).err(), Some((7, 3)));
+    assert_eq!(infer(&typed, &mut [], &mut []), Err(Refusal { number: 1, place: 0 }));
+    assert_eq!(infer(&typed, &mut vec![0; OUTPUT], &mut vec![0; WORK - 1]), Err(Refusal { number: 2, place: 0 }));
+}
+
+#[test]
+fn infer_names_the_first_fault_children_first() {
+    let table = [Type::Nat];
+    let (number, variable) = ([kind::NUMBER, 0, 0, 0], [kind::VARIABLE, 0, 0, 0]);
+    let splice_of_number = [[kind::SPLICE, 0, 2, 0], number];
+    assert_eq!(refused(&table, &splice_of_number), Some((11, 1)));
+    let splice_of_application = [[kind::SPLICE, 0, 2, 0], [kind::APPLICATION, 0, 3, 0], [kind::NUMBER, 0, 0, 4], number];
+    assert_eq!(refused(&table, &splice_of_application), Some((12, 2)));
+    let free_failure = [[kind::MATCH_NUMBER, 0, 2, 0], [kind::NUMBER, 0, 0, 3], [kind::NUMBER, 0, 0, 4], variable];
+    assert_eq!(refused(&table, &free_failure), Some((10, 4)));
+    let quoted_twice = [[kind::QUOTE, 0, 2, 0], [kind::QUOTE, 0, 3, 0], [kind::SPLICE, 0, 4, 0], number];
+    assert_eq!(refused(&table, &quoted_twice), Some((12, 3)));
+    let quoted_match = [[kind::QUOTE, 0, 2, 0], [kind::MATCH_LIFT, 1, 3, 0], [kind::NUMBER, 0, 0, 4], [kind::VARIABLE, 0, 0, 5], number];
+    assert_eq!(refused(&table, &quoted_match), Some((11, 4)));
+}
+
+#[test]
+fn infer_counts_unused_entries_and_names_12_before_14() {
+    let table = full_table();
+    let quote = [[kind::QUOTE, 0, 2, 0], [kind::NUMBER, 0, 0, 0]];
+    assert_eq!(refused(&table, &quote), Some((14, 1)));
+    assert_eq!(inferred(&untyped_file(&table[..255], &quote)).map(|(answer, _)| (answer.root_type, answer.written)), Ok((256, OUTPUT - 16 * 2_046)));
+    let lift_of_function = [[kind::LIFT, 0, 2, 0], [kind::FUNCTION, NAT, 3, 0], [kind::VARIABLE, 0, 0, 0]];
+    assert_eq!(refused(&table, &lift_of_function), Some((12, 1)));
 }
