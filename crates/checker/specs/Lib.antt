@@ -1,2 +1,2 @@
--- What the contracts of the crate ask.
+-- What the contracts of the crate ask, and what that of `size_refusal` tells.
 pub mod Limits

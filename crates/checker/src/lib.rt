@@ -1,4 +1,4 @@
-// Check's refusals, 3 to 12, in document 01's order, and those of a program's layout alone, 3 to 9 with document 02's 13, where types may be
+// Check's refusals, 3 to 12, in document 01's order, and those of a program's layout alone, 3 to 9 with document 02's 13, where types are
 // omitted. The first check that refuses is the answer.
 ghost use mathlib.Core.Path.{_≡_};
 ghost use lib.ListN.{length};
