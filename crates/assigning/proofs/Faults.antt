@@ -3,26 +3,25 @@ use Prim.Native.Nat.{ℕ, suc, _*_, _-_, _≤_, _<_}
 use native.Mathlib.Omega.{arith}
 use mathlib.Core.List.{List}
 use mathlib.Core.Option.{none, some}
-use mathlib.Core.Path.{_≡_, refl, ap, sym, _∙_}
+use mathlib.Core.Path.{_≡_, refl, ap, sym, subst, _∙_}
 use lib.ListN.{length, take}
 use lib.Seq.{length-take-le}
 use borrow.Author.Tests.{lt-ltb, le-ltb}
-use Rattle.rules.specs.Kinds.{kindOf}
 use Rattle.rules.specs.Types.{Table}
 use Rattle.rules.specs.Typing.{Env}
-use Rattle.rules.specs.Format.{Record as MeantRecord, mostTypes}
-use Rattle.rules.specs.Refusals.{tableFull, unless}
-use Rattle.rules.specs.Check.{judged}
+use Rattle.rules.specs.Format.{mostTypes}
+use Rattle.rules.specs.Refusals.{tableFull, unless, _then_}
 use Rattle.inference.specs.Inference.{tableFor}
 use Rattle.records.specs.declared.Entry.{Entry}
 use Rattle.records.specs.declared.Record.{Record}
-use Rattle.records.specs.Meant.{entryMeant}
+use Rattle.records.specs.Meant.{entryMeant, recordMeant}
 use Rattle.records.specs.View.{entriesIn}
 use Rattle.records.proofs.Entries.{entries-length, entries-front}
 use Rattle.refusals.specs.declared.Verdict.{Verdict}
-use Rattle.refusals.specs.Tells.{Tells, refusalBy}
-use Rattle.refusals.proofs.Laws.{tells-first, tells-next}
+use Rattle.refusals.specs.Tells.{Tells, refusalBy, verdictAt}
+use Rattle.refusals.proofs.Laws.{tells-placed, some-number, tells-next}
 use Rattle.judging.specs.Stack.{stack}
+use Rattle.judging.specs.Tests.{Judges}
 use Rattle.tables.specs.declared.Held.{Held}
 use Rattle.tables.specs.Having.{CanHave, Has}
 use Rattle.assigning.specs.declared.Candidate.{Candidate}
@@ -38,19 +37,23 @@ pub has-made : (es es′ : Table) (types : ℕ) (e : Entry) (r : Held) → Has e
 unfolding wantedMeant
 has-made es es′ types e r h = record { does = record { table = h .table; number = h .number; fits = h .fits; room = h .room } }
 
--- The record's own fault, then 14.
-module _ (types : Table) (count : ℕ) (Γ : Env) (l n : ℕ) (r : MeantRecord) (x y z : ℕ) (v : Verdict) (own : Tells v (judged types Γ l n (kindOf (r .kind)) (r .fields) x y z)) where
-  pub own-fault : (v .number ≡ 0 → ⊥) → Tells v (faultIn types count Γ l n r x y z)
-  unfolding faultIn
-  own-fault h = tells-first v _ _ own h
+-- Rules 10 to 12 by the kind that the record is known to have.
+pub judges-known : (types : Table) (Γ : Env) (l k : ℕ) (r : Record) (x y z q : ℕ) → r .kind ≡ k → Judges types Γ l k r x y z q → Judges types Γ l (r .kind) r x y z q
+judges-known types Γ l k r x y z q e h = subst (λ i. Judges types Γ l i r x y z q) (sym e) h
 
-  pub full-fault : v .number ≡ 0 → mostTypes < count → (q : Verdict) → Tells q (some (refusalBy tableFull n)) → Tells q (faultIn types count Γ l n r x y z)
-  unfolding faultIn unless
-  full-fault e h q t = tells-next v q _ _ own e (rw (le-ltb count (suc mostTypes) (omega arith)) t)
+-- The record's own fault, whose number is q, then 14.
+module _ (types : Table) (count : ℕ) (Γ : Env) (l n : ℕ) (r : Record) (x y z q : ℕ) (own : Judges types Γ l (r .kind) r x y z q) (v : Verdict) where
+  pub own-fault : (q ≡ 0 → ⊥) → Tells v (some (refusalBy q n)) → Tells v (faultIn types count Γ l n (recordMeant r) x y z)
+  unfolding faultIn _then_
+  own-fault h t = rw (some-number _ _ (tells-placed q n _ h (own .tells n)) h) t
 
-  pub no-fault : v .number ≡ 0 → count ≤ mostTypes → (q : Verdict) → Tells q none → Tells q (faultIn types count Γ l n r x y z)
+  pub full-fault : q ≡ 0 → mostTypes < count → Tells v (some (refusalBy tableFull n)) → Tells v (faultIn types count Γ l n (recordMeant r) x y z)
   unfolding faultIn unless
-  no-fault e h q t = tells-next v q _ _ own e (rw (lt-ltb count (suc mostTypes) (omega arith)) t)
+  full-fault e h t = tells-next (verdictAt q n) v _ _ (own .tells n) e (rw (le-ltb count (suc mostTypes) (omega arith)) t)
+
+  pub no-fault : q ≡ 0 → count ≤ mostTypes → Tells v none → Tells v (faultIn types count Γ l n (recordMeant r) x y z)
+  unfolding faultIn unless
+  no-fault e h t = tells-next (verdictAt q n) v _ _ (own .tells n) e (rw (lt-ltb count (suc mostTypes) (omega arith)) t)
 
 -- What is wanted, given to the record; the parts of the buffer that are lent are the first entries.
 module _ (s : List ℕ) (types : ℕ) (can : CanHave (entriesIn s) types) where

@@ -6,6 +6,7 @@ ghost use Rattle.records.specs.View.{entriesIn};
 ghost use Rattle.records.specs.Meant.{recordMeant};
 ghost use Rattle.refusals.specs.Tells.{Tells};
 ghost use Rattle.judging.specs.Stack.{stack};
+ghost use Rattle.judging.specs.Tests.{Judges};
 ghost use Rattle.tables.specs.Having.{CanHave};
 ghost use Rattle.assigning.specs.Assigning.{Wants, HasCandidate, faultIn, CanAssign, Assigns};
 use records::Entry;
@@ -77,6 +78,33 @@ fn hold(table: &mut [u8], types: u16, w: Candidate) -> Held
     }
 }
 
+// The number of the fault of r by rules 10 to 12, at this level under the binders below the depth, where its children have the types x, y and z, or 0.
+// As in check's walk the kinds of which there are many are named, so that each has code of its own.
+fn own_fault(
+    table: &[u8],
+    binders: &[u32],
+    depth: usize,
+    level: u16,
+    r: Record,
+    x: u16,
+    y: u16,
+    z: u16,
+) -> u16
+    requires { ⌜ depth ≤ length (now binders) ⌝ }
+    ensures { λ q. ⌜ Judges (entriesIn (now (table .entry))) (stack (now (binders .entry)) depth) level (r .kind) r x y z q ⌝ }
+{
+    let kind = r.kind;
+    match kind {
+        1 => judging::judge(table, binders, depth, level, 1, r, x, y, z),
+        2 => judging::judge(table, binders, depth, level, 2, r, x, y, z),
+        3 => judging::judge(table, binders, depth, level, 3, r, x, y, z),
+        4 => judging::judge(table, binders, depth, level, 4, r, x, y, z),
+        7 => judging::judge(table, binders, depth, level, 7, r, x, y, z),
+        8 => judging::judge(table, binders, depth, level, 8, r, x, y, z),
+        _ => judging::judge(table, binders, depth, level, kind, r, x, y, z),
+    }
+}
+
 // The fault of record n, which is r with its type, in the table of `types` entries that has that type: its lowest of 10, 11, 12 and 14.
 fn fault(
     table: &[u8],
@@ -93,9 +121,9 @@ fn fault(
     requires { ⌜ depth ≤ length (now binders) ⌝ }
     ensures { λ v. ⌜ Tells v (faultIn (entriesIn (now (table .entry))) types (stack (now (binders .entry)) depth) level n (recordMeant r) x y z) ⌝ }
 {
-    let own = judging::judge(table, binders, depth, level, n, r, x, y, z);
-    if own.number != 0 {
-        return own;
+    let own = own_fault(table, binders, depth, level, r, x, y, z);
+    if own != 0 {
+        return refusals::refuse(own, n);
     }
     if kinds::MOST_TYPES < types {
         return refusals::refuse(refusals::TABLE_FULL, n);

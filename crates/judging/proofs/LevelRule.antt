@@ -8,8 +8,7 @@ use Rattle.rules.specs.Kinds.{number, variable, matchVariable, matchShape, matc
 use Rattle.rules.specs.Terms.{Fields}
 use Rattle.rules.specs.Conditions.{holds}
 use Rattle.rules.specs.Typing.{Env, levels, standing, placed}
-use Rattle.records.specs.declared.Record.{Record}
-use Rattle.judging.specs.Tests.{fieldsMeant, LevelTest}
+use Rattle.judging.specs.Tests.{LevelTest}
 use Rattle.judging.proofs.KindNumbers.{number-of}
 
 -- Rule 11 asks of kinds 2 and 10 something of their binder, and of another kind that it stands at a level where it may.
@@ -21,18 +20,18 @@ placed-standing Γ l f (binary₂ k) g h = refl
 placed-standing Γ l f (ternary₃ (match matchVariable)) g h = absurd (h refl)
 placed-standing Γ l f (ternary₃ (match (matchShape k))) g h = refl
 
-module _ (r : Record) (l level : ℕ) where
-  pub variable-level : r .kind ≡ 2 → LevelTest r l level (eqb level l)
+module _ (kind l level : ℕ) where
+  pub variable-level : kind ≡ 2 → LevelTest kind l level (eqb level l)
   unfolding kindOf numbered
-  variable-level e = record { is = λ Γ g. rw (e, g) (sym (and-true (eqb level l))) }
+  variable-level e = record { is = λ Γ f g. rw (e, g) (sym (and-true (eqb level l))) }
 
-  pub match-variable-level : (q : Bool) → r .kind ≡ 10 → q ≡ eqb l 0 && eqb level 1 → LevelTest r l level q
+  pub match-variable-level : (q : Bool) → kind ≡ 10 → q ≡ eqb l 0 && eqb level 1 → LevelTest kind l level q
   unfolding kindOf numbered
-  match-variable-level q e h = record { is = λ Γ g. rw (e, g) (h ∙ ap (λ b. eqb l 0 && b) (sym (and-true (eqb level 1)))) }
+  match-variable-level q e h = record { is = λ Γ f g. rw (e, g) (h ∙ ap (λ b. eqb l 0 && b) (sym (and-true (eqb level 1)))) }
 
-  pub other-level : (q : Bool) → (r .kind ≡ 2 → ⊥) → (r .kind ≡ 10 → ⊥) → q ≡ holds (standing l (levels (kindOf (r .kind)))) → LevelTest r l level q
+  pub other-level : (q : Bool) → (kind ≡ 2 → ⊥) → (kind ≡ 10 → ⊥) → q ≡ holds (standing l (levels (kindOf kind))) → LevelTest kind l level q
   other-level q g h e = record {
-    is = λ Γ _. e ∙ sym (ap holds (placed-standing Γ l (fieldsMeant r) (kindOf (r .kind)) (λ m. g (number-of (r .kind) 2 (omega arith) m)) (λ m. h (number-of (r .kind) 10 (omega arith) m))));
+    is = λ Γ f _. e ∙ sym (ap holds (placed-standing Γ l f (kindOf kind) (λ m. g (number-of kind 2 (omega arith) m)) (λ m. h (number-of kind 10 (omega arith) m))));
   }
 
 pub ruleset standings = (variable-level, match-variable-level, other-level)

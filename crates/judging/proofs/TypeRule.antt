@@ -25,24 +25,24 @@ typed-match types Γ f x y z k m =
     in-range (λ k. typed types Γ (kindOf k) f x y z ≡ matchChildrenRule types (f .type) x y z ++ patternOf types Γ (kindOf k) f (partA types x)) 9 6
     (refl & refl & refl & refl & refl & refl & tt) k (m .low) (m .high)
 
-module _ (types : Table) (ty : ℕ) (r : Record) where
+module _ (types : Table) (ty kind : ℕ) (r : Record) where
   -- The test of what a kind asks of C, and of its type rule, is that of each record of the kind.
   module _ (C : ℕ) (q : Bool) where
-    pub kind-pattern : (k : Kind) → kindOf (r .kind) ≡ k → ((Γ : Env) → binder Γ (r .a) .type ≡ ty → Tests (patternOf types Γ k (fieldsMeant r) C) q) → PatternTest types ty r C q
+    pub kind-pattern : (k : Kind) → kindOf kind ≡ k → ((Γ : Env) → binder Γ (r .a) .type ≡ ty → Tests (patternOf types Γ k (fieldsMeant r) C) q) → PatternTest types ty kind r C q
     kind-pattern k e h = record { is = λ Γ g. rw e (h Γ g .is) }
 
-    pub shape-pattern : (s : Shape) → kindOf (r .kind) ≡ ternary₃ (match (matchShape s)) → ShapeTest types s r C q → PatternTest types ty r C q
+    pub shape-pattern : (s : Shape) → kindOf kind ≡ ternary₃ (match (matchShape s)) → ShapeTest types s r C q → PatternTest types ty kind r C q
     shape-pattern s e h = kind-pattern (ternary₃ (match (matchShape s))) e (λ Γ g. record { is = h .is })
 
   module _ (x y z : ℕ) (q : Bool) where
-    pub kind-type : (k : Kind) → kindOf (r .kind) ≡ k → ((Γ : Env) → binder Γ (r .a) .type ≡ ty → Tests (typed types Γ k (fieldsMeant r) x y z) q) → TypeTest types ty r x y z q
+    pub kind-type : (k : Kind) → kindOf kind ≡ k → ((Γ : Env) → binder Γ (r .a) .type ≡ ty → Tests (typed types Γ k (fieldsMeant r) x y z) q) → TypeTest types ty kind r x y z q
     kind-type k e h = record { is = λ Γ g. rw e (h Γ g .is) }
 
-    pub match-type : (e : Entry) (s t : Bool) → IsMatch (r .kind) → IsEntry types x e → Tests (matchChildrenRule types (r .ty) x y z) s
-        → PatternTest types ty r (e .a) t → q ≡ s && t → TypeTest types ty r x y z q
+    pub match-type : (e : Entry) (s t : Bool) → IsMatch kind → IsEntry types x e → Tests (matchChildrenRule types (r .ty) x y z) s
+        → PatternTest types ty kind r (e .a) t → q ≡ s && t → TypeTest types ty kind r x y z q
     match-type e s t m i hs ht hq = record {
       is = λ Γ g.
-          let p = patternOf types Γ (kindOf (r .kind)) (fieldsMeant r) in
+          let p = patternOf types Γ (kindOf kind) (fieldsMeant r) in
           let u : Tests (p (partA types x)) t = record { is = ht .is Γ g ∙ ap (λ C. holds (p C)) (ap (λ v. v .a) (i .is)) } in
-          both-test (matchChildrenRule types (r .ty) x y z) _ s t q hs u hq .is ∙ sym (ap holds (typed-match types Γ (fieldsMeant r) x y z (r .kind) m));
+          both-test (matchChildrenRule types (r .ty) x y z) _ s t q hs u hq .is ∙ sym (ap holds (typed-match types Γ (fieldsMeant r) x y z kind m));
     }

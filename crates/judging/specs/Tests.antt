@@ -10,8 +10,10 @@ use Rattle.rules.specs.Terms.{Fields}
 use Rattle.rules.specs.Types.{Table, Entry as MeantEntry, entry, Code, partA}
 use Rattle.rules.specs.Conditions.{equal, same, Rule, holds}
 use Rattle.rules.specs.Typing.{Binder as MeantBinder, Env, binder, bind, bound, placed, typed, shape, pattern}
+use Rattle.rules.specs.Check.{judged}
 use Rattle.records.specs.declared.Record.{Record}
 use Rattle.records.specs.Meant.{recordMeant}
+use Rattle.refusals.specs.Tells.{Tells, verdictAt}
 use Rattle.judging.specs.declared.Binder.{Binder}
 
 -- The binder that the code's struct stands for.
@@ -52,15 +54,19 @@ patternOf types Γ (unary₁ k) f C = []
 patternOf types Γ (binary₂ k) f C = []
 patternOf types Γ (ternary₃ (match k)) f C = pattern types Γ k f C
 
-pub record PatternTest (types : Table) (ty : ℕ) (r : Record) (C : ℕ) (q : Bool) : Type 0 where
-  pub is : (Γ : Env) → binder Γ (r .a) .type ≡ ty → q ≡ holds (patternOf types Γ (kindOf (r .kind)) (fieldsMeant r) C)
+pub record PatternTest (types : Table) (ty kind : ℕ) (r : Record) (C : ℕ) (q : Bool) : Type 0 where
+  pub is : (Γ : Env) → binder Γ (r .a) .type ≡ ty → q ≡ holds (patternOf types Γ (kindOf kind) (fieldsMeant r) C)
 
--- Rules 10, 11 and 12 of a record.
-pub record IndexTest (r : Record) (depth : ℕ) (q : Bool) : Type 0 where
-  pub is : (Γ : Env) → length Γ ≡ depth → q ≡ holds (bound Γ (kindOf (r .kind)) (fieldsMeant r))
+-- Rules 10, 11 and 12 of a record of a kind: with this a, of any fields, and with the fields of r.
+pub record IndexTest (kind a depth : ℕ) (q : Bool) : Type 0 where
+  pub is : (Γ : Env) (f : Fields) → f .a ≡ a → length Γ ≡ depth → q ≡ holds (bound Γ (kindOf kind) f)
 
-pub record LevelTest (r : Record) (l level : ℕ) (q : Bool) : Type 0 where
-  pub is : (Γ : Env) → binder Γ (r .a) .level ≡ level → q ≡ holds (placed Γ l (kindOf (r .kind)) (fieldsMeant r))
+pub record LevelTest (kind l level : ℕ) (q : Bool) : Type 0 where
+  pub is : (Γ : Env) (f : Fields) → binder Γ (f .a) .level ≡ level → q ≡ holds (placed Γ l (kindOf kind) f)
 
-pub record TypeTest (types : Table) (ty : ℕ) (r : Record) (x y z : ℕ) (q : Bool) : Type 0 where
-  pub is : (Γ : Env) → binder Γ (r .a) .type ≡ ty → q ≡ holds (typed types Γ (kindOf (r .kind)) (fieldsMeant r) x y z)
+pub record TypeTest (types : Table) (ty kind : ℕ) (r : Record) (x y z : ℕ) (q : Bool) : Type 0 where
+  pub is : (Γ : Env) → binder Γ (r .a) .type ≡ ty → q ≡ holds (typed types Γ (kindOf kind) (fieldsMeant r) x y z)
+
+-- q is the number of the refusal of a record of a kind with the fields of r, whatever its place n, or 0.
+pub record Judges (types : Table) (Γ : Env) (l kind : ℕ) (r : Record) (x y z q : ℕ) : Type 0 where
+  pub tells : (n : ℕ) → Tells (verdictAt q n) (judged types Γ l n (kindOf kind) (fieldsMeant r) x y z)

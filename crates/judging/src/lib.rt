@@ -1,17 +1,15 @@
 // "A record is judged from its binders, its level and its children's written types": refusals 10 to 12 of one record.
 // Each kind has a type rule of its own, and kinds 2 and 10 ask something of their binder: for these the kind's number is matched here. Which field
-// is an index and at which levels a kind may stand are asked of the tables of `kinds`.
+// is an index and at which levels a kind may stand are asked of the tables of `kinds`. The kind is a number beside the record's fields, so that a
+// caller who names it by a literal gets the code of that kind's rules alone.
 ghost use Prim.Native.Nat.{_≤_};
 ghost use lib.ListN.{length};
-ghost use Rattle.rules.specs.Kinds.{matchApplication, matchFunction, matchFix, kindOf};
+ghost use Rattle.rules.specs.Kinds.{matchApplication, matchFunction, matchFix};
 ghost use Rattle.rules.specs.Types.{Nat, Fn, Code};
-ghost use Rattle.rules.specs.Check.{judged};
 ghost use Rattle.records.specs.View.{entriesIn};
-ghost use Rattle.records.specs.Meant.{recordMeant};
 ghost use Rattle.records.specs.Places.{IsEntry};
-ghost use Rattle.refusals.specs.Tells.{Tells};
 ghost use Rattle.judging.specs.Stack.{stack};
-ghost use Rattle.judging.specs.Tests.{IsBinder, Tests, EntryTest, matchChildrenRule, IsMatch, ShapeTest, PatternTest, IndexTest, LevelTest, TypeTest};
+ghost use Rattle.judging.specs.Tests.{IsBinder, Tests, EntryTest, matchChildrenRule, IsMatch, ShapeTest, PatternTest, IndexTest, LevelTest, TypeTest, Judges};
 use kinds::both;
 
 // The level of a binder's variable, and its type.
@@ -77,20 +75,19 @@ pub fn binder_at(binders: &[u32], depth: usize, i: u16) -> Binder
 }
 
 // 10: an index is below its binders. Field a is an index where its use is 1.
-fn index_ok(r: records::Record, depth: usize) -> bool
-    ensures { λ q. ⌜ IndexTest r depth q ⌝ }
+fn index_ok(kind: u16, a: u16, depth: usize) -> bool
+    ensures { λ q. ⌜ IndexTest kind a depth q ⌝ }
 {
-    if kinds::use_of_a(r.kind) == 1 {
-        return (r.a as usize) < depth;
+    if kinds::use_of_a(kind) == 1 {
+        return (a as usize) < depth;
     }
     true
 }
 
 // 11: the kind stands at a level where it may, and so does the binder that its index names.
-fn level_ok(r: records::Record, level: u16, bound: u16) -> bool
-    ensures { λ q. ⌜ LevelTest r level bound q ⌝ }
+fn level_ok(kind: u16, level: u16, bound: u16) -> bool
+    ensures { λ q. ⌜ LevelTest kind level bound q ⌝ }
 {
-    let kind = r.kind;
     match kind {
         2 => bound == level,
         10 => both(level == 0, bound == 1),
@@ -140,11 +137,10 @@ fn fix_ok(table: &[u8], r: records::Record, c: u16) -> bool
 }
 
 // What a match, of kind 9 to 14, asks of C.
-fn pattern_ok(table: &[u8], bound: u16, r: records::Record, c: u16) -> bool
-    requires { ⌜ IsMatch (r .kind) ⌝ }
-    ensures { λ q. ⌜ PatternTest (entriesIn (now (table .entry))) bound r c q ⌝ }
+fn pattern_ok(table: &[u8], bound: u16, kind: u16, r: records::Record, c: u16) -> bool
+    requires { ⌜ IsMatch kind ⌝ }
+    ensures { λ q. ⌜ PatternTest (entriesIn (now (table .entry))) bound kind r c q ⌝ }
 {
-    let kind = r.kind;
     match kind {
         9 => is_nat(table, c),
         10 => bound == c,
@@ -156,10 +152,9 @@ fn pattern_ok(table: &[u8], bound: u16, r: records::Record, c: u16) -> bool
 }
 
 // 12: the type rule of the record's kind; `bound` is the type of the binder that its index names.
-fn type_ok(table: &[u8], bound: u16, r: records::Record, x: u16, y: u16, z: u16) -> bool
-    ensures { λ q. ⌜ TypeTest (entriesIn (now (table .entry))) bound r x y z q ⌝ }
+fn type_ok(table: &[u8], bound: u16, kind: u16, r: records::Record, x: u16, y: u16, z: u16) -> bool
+    ensures { λ q. ⌜ TypeTest (entriesIn (now (table .entry))) bound kind r x y z q ⌝ }
 {
-    let kind = r.kind;
     match kind {
         2 => bound == r.ty,
         3 => is_fn(table, r.ty, r.a, x),
@@ -172,37 +167,38 @@ fn type_ok(table: &[u8], bound: u16, r: records::Record, x: u16, y: u16, z: u16)
             let e = entry_if_any(table, x);
             both(
                 match_children_ok(table, r.ty, x, y, z),
-                pattern_ok(table, bound, r, e.a),
+                pattern_ok(table, bound, kind, r, e.a),
             )
         }
         _ => is_nat(table, r.ty),
     }
 }
 
-// Record n at this level under the binders, whose children have the written types x, y and z: the lowest of 10 to 12 that it breaks.
+// A record of this kind with the fields of r, at this level under the binders, whose children have the written types x, y and z: the number of the
+// lowest of 10 to 12 that it breaks, or 0.
 pub fn judge(
     table: &[u8],
     binders: &[u32],
     depth: usize,
     level: u16,
-    n: u16,
+    kind: u16,
     r: records::Record,
     x: u16,
     y: u16,
     z: u16,
-) -> refusals::Verdict
+) -> u16
     requires { ⌜ depth ≤ length (now binders) ⌝ }
-    ensures { λ q. ⌜ Tells q (judged (entriesIn (now (table .entry))) (stack (now (binders .entry)) depth) level n (kindOf (recordMeant r .kind)) (recordMeant r .fields) x y z) ⌝ }
+    ensures { λ q. ⌜ Judges (entriesIn (now (table .entry))) (stack (now (binders .entry)) depth) level kind r x y z q ⌝ }
 {
     let bound = binder_at(binders, depth, r.a);
-    if !index_ok(r, depth) {
-        return refusals::refuse(refusals::BAD_INDEX, n);
+    if !index_ok(kind, r.a, depth) {
+        return refusals::BAD_INDEX;
     }
-    if !level_ok(r, level, bound.level) {
-        return refusals::refuse(refusals::BAD_LEVEL, n);
+    if !level_ok(kind, level, bound.level) {
+        return refusals::BAD_LEVEL;
     }
-    if !type_ok(table, bound.ty, r, x, y, z) {
-        return refusals::refuse(refusals::BAD_TYPE, n);
+    if !type_ok(table, bound.ty, kind, r, x, y, z) {
+        return refusals::BAD_TYPE;
     }
-    refusals::no_refusal()
+    0
 }

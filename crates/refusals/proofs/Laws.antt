@@ -4,11 +4,11 @@ use native.Mathlib.Omega.{arith}
 use mathlib.Core.Bool.{Bool, true, false, not}
 use mathlib.Core.Option.{Option, none, some}
 use mathlib.Core.Path.{_≡_, refl, ap, sym, _∙_}
-use borrow.Author.Tests.{not-true, not-false}
+use borrow.Author.Tests.{ne-eqb, not-true, not-false}
 use Rattle.rules.specs.Conditions.{Rule, holds}
 use Rattle.rules.specs.Refusals.{Refusal, unless, _then_}
 use Rattle.refusals.specs.declared.Verdict.{Verdict}
-use Rattle.refusals.specs.Tells.{refusalBy, shown, Tells}
+use Rattle.refusals.specs.Tells.{refusalBy, shown, verdictAt, Tells}
 
 -- Nothing refused, and something.
 pub tells-none : Tells (record { number = 0; place = 0 }) none
@@ -18,6 +18,10 @@ tells-none = record { is = refl; numbered = tt }
 pub tells-some : (number place : ℕ) → 1 ≤ number → Tells (record { number = number; place = place }) (some (refusalBy number place))
 unfolding shown
 tells-some number place h = record { is = refl; numbered = h }
+
+-- A number that is not 0, with its place.
+pub tells-placed : (number place : ℕ) (o : Option Refusal) → (number ≡ 0 → ⊥) → Tells (verdictAt number place) o → Tells (record { number = number; place = place }) o
+tells-placed number place o h t = rw (ne-eqb number 0 h) at t
 
 -- A verdict without a number is that of no refusal.
 pub no-number : (r : Verdict) (o : Option Refusal) → Tells r o → r .number ≡ 0 → o ≡ none

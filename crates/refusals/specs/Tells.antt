@@ -2,6 +2,8 @@
 use Prim.Native.Nat.{ℕ, _≤_}
 use mathlib.Core.Option.{Option, none, some}
 use mathlib.Core.Path.{_≡_}
+use lib.Dec.{eqb}
+use Rattle.rules.specs.Lists.{pick}
 use Rattle.rules.specs.Refusals.{Refusal}
 use Rattle.refusals.specs.declared.Verdict.{Verdict}
 
@@ -12,6 +14,10 @@ refusalBy number place = record { number = number; place = place }
 unfoldable pub shown : Option Refusal → Verdict
 shown none = record { number = 0; place = 0 }
 shown (some r) = record { number = r .number; place = r .place }
+
+-- The verdict by a number of which the place is known: that of no refusal where the number is 0.
+abbrev pub verdictAt : ℕ → ℕ → Verdict
+verdictAt number place = record { number = number; place = pick (eqb number 0) 0 place }
 
 -- No refusal has number 0.
 abbrev pub Numbered : Option Refusal → Type 0

@@ -15,14 +15,15 @@ use Rattle.rules.specs.Refusals.{Refusal, badLink, badChildren, _then_}
 use Rattle.rules.proofs.Tests.{holds-lowest}
 use Rattle.rules.proofs.Tree.{first-le, next-le, chainSize, chain-none, whole-size}
 use Rattle.rules.proofs.Meaning.{no-bad-link}
+use Rattle.records.specs.Places.{InChain, Follows}
 use Rattle.refusals.specs.declared.Verdict.{Verdict}
-use Rattle.refusals.specs.Tells.{Tells}
-use Rattle.refusals.proofs.Laws.{tells-none, tells-first, tells-next}
+use Rattle.refusals.specs.Tells.{verdictAt, Tells}
+use Rattle.refusals.proofs.Laws.{tells-none, tells-placed, tells-first, tells-next}
 use Rattle.judging.specs.Stack.{stack}
 use Rattle.typing.specs.declared.Child.{Child}
 use Rattle.typing.specs.Reading.{CanRead, IsThird, secondOf, thirdOf}
 use Rattle.typing.specs.Entering.{CanEnter, Enters, EntersFirst, EntersSecond}
-use Rattle.typing.specs.Walking.{judgedAt, treeSize, verdictIn, Packs, CanWalk, Walks, MakeTree}
+use Rattle.typing.specs.Walking.{judgedAt, JudgesOwn, treeSize, verdictIn, Packs, CanWalk, Walks, MakeTree}
 use Rattle.typing.proofs.Depths.{stack-below}
 use Rattle.typing.proofs.TreeCounts.{tree-then-chain, record-then-chain, none-after-third}
 use Rattle.typing.proofs.WalkedBy.{fromFirst, fromSecond, fromThird, walked-by, first-nothing, second-nothing, third-nothing}
@@ -66,21 +67,25 @@ pub record WalkedSoFar (t : ℕ) (types : Table) (rs : List Record) (bs bs′ : 
   pub counted : q + treeSize rs n ≡ left + chainSize rs child
 
 -- The record's own checks stop the walk, or pass.
-module _ (types : Table) (rs : List Record) (bs : List ℕ) (d l n left : ℕ) (v : Verdict) (own : Tells v (judgedAt types rs (stack bs d) l n)) (can : CanWalk rs bs d n left) where
+module _ (types : Table) (rs : List Record) (bs : List ℕ) (d l n left v : ℕ) (own : JudgesOwn types rs (stack bs d) l n v) (can : CanWalk rs bs d n left) where
   by-own : walked (length rs) types rs (stack bs d) l n ≡ judgedAt types rs (stack bs d) l n then fromFirst types rs (stack bs d) l n
   by-own = walked-by types rs (stack bs d) l n (can .here .real) (can .here .within)
 
-  pub stops-own : (q : ℕ) → (v .number ≡ 0 → ⊥) → Packs v q → Walks types rs bs bs d l n left q
-  stops-own q h p = record { tells = rw (p .holds, by-own) (tells-first v _ _ own h); counted = λ e. absurd (omega (arith, p .refused)); kept = refl }
+  pub stops-own : (q : ℕ) → (v ≡ 0 → ⊥) → Packs (record { number = v; place = n }) q → Walks types rs bs bs d l n left q
+  stops-own q h p = record {
+    tells = rw (p .holds, by-own) (tells-first _ _ _ (tells-placed v n _ h (own .tells)) h);
+    counted = λ e. absurd (omega (arith, p .refused));
+    kept = refl;
+  }
 
-  passes-own : (t : ℕ) → v .number ≡ 0 → left ≡ t
+  passes-own : (t : ℕ) → v ≡ 0 → left ≡ t
       → WalkedSoFar t types rs bs bs d l n left (left - 1) (firstOf rs n) (fromFirst types rs (stack bs d) l n)
   passes-own t e m = let some = one-left rs bs d n left can in record {
     measure = m;
     can = can;
     same = refl;
     kept = refl;
-    says = λ p told. rw by-own (tells-next v p _ _ own e told);
+    says = λ p told. rw by-own (tells-next (verdictAt v n) p _ _ (own .tells) e told);
     nothing = first-nothing types rs (stack bs d) l n;
     falls = omega arith;
     counted = omega (arith, record-then-chain rs (can .chained) n (can .here .real) (can .here .within));
@@ -156,8 +161,11 @@ module _ (t : ℕ) (types : Table) (rs : List Record) (bs bs₀ : List ℕ) (d l
         }
 
 -- The same for the first child, the second and the third.
-module _ (types : Table) (rs : List Record) (bs bs₁ : List ℕ) (d l n left : ℕ) (c : Child) (enters : EntersFirst rs bs bs₁ d l n c) (can : CanWalk rs bs d n left) (v : Verdict)
-    (own : Tells v (judgedAt types rs (stack bs d) l n)) (z : v .number ≡ 0) where
+pub first-chained : (rs : List Record) (bs bs₁ : List ℕ) (d l n left : ℕ) (c : Child) → EntersFirst rs bs bs₁ d l n c → CanWalk rs bs d n left → InChain rs (c .n)
+first-chained rs bs bs₁ d l n left c enters can = record { good = can .here .linked; most = rw (enters .enters .number) (first-le rs n) }
+
+module _ (types : Table) (rs : List Record) (bs bs₁ : List ℕ) (d l n left : ℕ) (c : Child) (enters : EntersFirst rs bs bs₁ d l n c) (can : CanWalk rs bs d n left) (v : ℕ)
+    (own : JudgesOwn types rs (stack bs d) l n v) (z : v ≡ 0) where
   far : (t : ℕ) → left ≡ t → WalkedSoFar t types rs bs bs d l n left (left - 1) (firstOf rs n) (fromFirst types rs (stack bs d) l n)
   far t m = passes-own types rs bs d l n left v own can t z m
 
@@ -178,24 +186,33 @@ module _ (types : Table) (rs : List Record) (bs bs₁ : List ℕ) (d l n left : 
     passes-first h same₁ same₂ t m =
         passes t types rs bs bs d l n left (left - 1) _ _ (far t m) bs₁ c _ _ (enters .enters) (first-le rs n) there bs₂ p walk _ refl (second-nothing types rs (stack bs d) l n) h same₁ same₂
 
-module _ (t : ℕ) (types : Table) (rs : List Record) (bs bs₀ bs₁ : List ℕ) (d l n left q : ℕ)
-    (far : WalkedSoFar t types rs bs bs₀ d l n left q (secondOf rs n) (fromSecond types rs (stack bs d) l n)) (c : Child) (enters : EntersSecond rs bs₀ bs₁ d l n c) where
-  pub ends-first : c .n ≡ 0 → Walks types rs bs bs₁ d l n left q
-  ends-first e = ends t types rs bs bs₀ d l n left q _ _ far bs₁ (enters .enters .kept) (sym (enters .enters .number) ∙ e)
+-- What follows the first child is the second, and is read before the first's tree is walked.
+module _ (t : ℕ) (types : Table) (rs : List Record) (bs bs₀ : List ℕ) (d l n left q : ℕ)
+    (far : WalkedSoFar t types rs bs bs₀ d l n left q (secondOf rs n) (fromSecond types rs (stack bs d) l n))
+    (bs₁ : List ℕ) (first : Child) (entered : EntersFirst rs bs bs₁ d l n first) (m : ℕ) (next : Follows rs (first .n) m) where
+  second-is : m ≡ secondOf rs n
+  second-is = next .is ∙ ap (nextOf rs) (entered .enters .number)
 
-  pub goes-second : (c .n ≡ 0 → ⊥) → length bs₁ ≡ length bs₀ → CanWalk rs bs₁ (c .depth) (c .n) q
-  goes-second there = goes t types rs bs bs₀ d l n left q _ _ far bs₁ c _ _ (enters .enters) (next-le rs (firstOf rs n)) there
+  pub ends-first : m ≡ 0 → Walks types rs bs bs₀ d l n left q
+  ends-first e = ends t types rs bs bs₀ d l n left q _ _ far bs₀ refl (sym second-is ∙ e)
 
-  module _ (there : c .n ≡ 0 → ⊥) (bs₂ : List ℕ) (p : ℕ) (walk : Walks types rs bs₁ bs₂ (c .depth) (c .level) (c .n) q p) where
-    pub stops-second : 65536 ≤ p → Walks types rs bs bs₂ d l n left p
-    unfolding fromSecond
-    stops-second = stops t types rs bs bs₀ d l n left q _ _ far bs₁ c _ _ (rw (far .kept) at (enters .enters)) (next-le rs (firstOf rs n)) there bs₂ p walk _ refl
+  module _ (there : m ≡ 0 → ⊥) (bs₂ : List ℕ) (c : Child) (enters : EntersSecond rs bs₀ bs₂ d l n c) where
+    second-there : c .n ≡ 0 → ⊥
+    second-there e = there (second-is ∙ sym (enters .enters .number) ∙ e)
 
-    pub passes-second : p < 65536 → length bs₁ ≡ length bs₀ → length bs₂ ≡ length bs₁
-        → WalkedSoFar t types rs bs bs₂ d l n left p (thirdOf rs n) (fromThird types rs (stack bs d) l n)
-    unfolding fromSecond
-    passes-second = passes t types rs bs bs₀ d l n left q _ _ far bs₁ c _ _ (rw (far .kept) at (enters .enters)) (next-le rs (firstOf rs n)) there bs₂ p walk _ refl
-        (third-nothing types rs (stack bs d) l n)
+    pub goes-second : length bs₂ ≡ length bs₀ → CanWalk rs bs₂ (c .depth) (c .n) q
+    goes-second = goes t types rs bs bs₀ d l n left q _ _ far bs₂ c _ _ (enters .enters) (next-le rs (firstOf rs n)) second-there
+
+    module _ (bs₃ : List ℕ) (p : ℕ) (walk : Walks types rs bs₂ bs₃ (c .depth) (c .level) (c .n) q p) where
+      pub stops-second : 65536 ≤ p → Walks types rs bs bs₃ d l n left p
+      unfolding fromSecond
+      stops-second = stops t types rs bs bs₀ d l n left q _ _ far bs₂ c _ _ (rw (far .kept) at (enters .enters)) (next-le rs (firstOf rs n)) second-there bs₃ p walk _ refl
+
+      pub passes-second : p < 65536 → length bs₂ ≡ length bs₀ → length bs₃ ≡ length bs₂
+          → WalkedSoFar t types rs bs bs₃ d l n left p (thirdOf rs n) (fromThird types rs (stack bs d) l n)
+      unfolding fromSecond
+      passes-second = passes t types rs bs bs₀ d l n left q _ _ far bs₂ c _ _ (rw (far .kept) at (enters .enters)) (next-le rs (firstOf rs n)) second-there bs₃ p walk _ refl
+          (third-nothing types rs (stack bs d) l n)
 
 module _ (t : ℕ) (types : Table) (rs : List Record) (bs bs₀ : List ℕ) (d l n left q : ℕ)
     (far : WalkedSoFar t types rs bs bs₀ d l n left q (thirdOf rs n) (fromThird types rs (stack bs d) l n)) (e : ℕ) (third : IsThird rs n e) where
@@ -242,4 +259,4 @@ pub root-told : (types : Table) (rs : List Record) (bs bs′ : List ℕ) (count 
 unfolding stack
 root-told types rs bs bs′ count p v h walk e = rw (e, ← h .all) (walk .tells)
 
-pub ruleset walking = (packs, passed-number, refused-number, one-left, rest-falls, can-enter, stops-own, passed-enter, passed-read, passed-falls, ends-leaf, goes-first, stops-first, ends-first, goes-second, stops-second, ends-second, goes-third, ends-third)
+pub ruleset walking = (packs, passed-number, refused-number, one-left, rest-falls, can-enter, stops-own, passed-enter, passed-read, passed-falls, first-chained, ends-leaf, goes-first, stops-first, ends-first, goes-second, stops-second, ends-second, goes-third, ends-third)

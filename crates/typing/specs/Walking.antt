@@ -13,8 +13,10 @@ use Rattle.rules.specs.Format.{Record, mostRecords}
 use Rattle.rules.specs.Links.{firstOf, treeOf}
 use Rattle.rules.specs.Refusals.{Refusal, badLink, badChildren, lowest}
 use Rattle.rules.specs.Check.{linksRule, childrenRule, typeNo, judged, walked}
+use Rattle.records.specs.declared.Record.{Record as Read}
+use Rattle.records.specs.Places.{IsRecord, InChain}
 use Rattle.refusals.specs.declared.Verdict.{Verdict}
-use Rattle.refusals.specs.Tells.{Tells}
+use Rattle.refusals.specs.Tells.{verdictAt, Tells}
 use Rattle.judging.specs.Stack.{stack}
 use Rattle.typing.specs.Reading.{CanRead, secondOf, thirdOf}
 use Rattle.typing.specs.Entering.{kindNo, fieldsNo}
@@ -22,6 +24,19 @@ use Rattle.typing.specs.Entering.{kindNo, fieldsNo}
 -- Record n is judged by what the records say of it and of its children.
 unfoldable pub judgedAt : Table → List Record → Env → ℕ → ℕ → Option Refusal
 judgedAt types rs Γ l n = judged types Γ l n (kindNo rs n) (fieldsNo rs n) (typeNo rs (firstOf rs n)) (typeNo rs (secondOf rs n)) (typeNo rs (thirdOf rs n))
+
+-- The children of r can be read, and the binders.
+pub record CanJudge (rs : List Record) (bs : List ℕ) (depth : ℕ) (r : Read) : Type 0 where
+  pub chained : InChain rs (r .first)
+  pub deep : depth ≤ length bs
+
+-- q is the number of the refusal of r, or 0, for each record n that is r, where it is of this kind.
+pub record JudgesRead (types : Table) (rs : List Record) (Γ : Env) (l kind : ℕ) (r : Read) (q : ℕ) : Type 0 where
+  pub tells : (n : ℕ) → CanRead rs n → IsRecord rs n r → r .kind ≡ kind → Tells (verdictAt q n) (judgedAt types rs Γ l n)
+
+-- q is the number of record n's own refusal, or 0.
+pub record JudgesOwn (types : Table) (rs : List Record) (Γ : Env) (l n q : ℕ) : Type 0 where
+  pub tells : Tells (verdictAt q n) (judgedAt types rs Γ l n)
 
 -- How many records the tree of record n has.
 abbrev pub treeSize : List Record → ℕ → ℕ

@@ -12,7 +12,8 @@ ghost use Rattle.judging.specs.Stack.{stack};
 ghost use Rattle.typing.specs.Reading.{CanRead, IsType, IsThird};
 ghost use Rattle.typing.specs.Pushing.{Pushes, PushesFirst, PushesSecond};
 ghost use Rattle.typing.specs.Entering.{CanEnter, EntersFirst, EntersSecond};
-ghost use Rattle.typing.specs.Walking.{judgedAt, verdictIn, Packs, CanWalk, Walks, MakeTree};
+ghost use Rattle.typing.specs.Walking.{CanJudge, JudgesRead, JudgesOwn, verdictIn, Packs, CanWalk, Walks, MakeTree};
+use records::Record;
 
 // A child of a record, where its tree is walked: its number, its level, and the depth of the binders over it.
 pub struct Child {
@@ -26,11 +27,11 @@ pub struct Child {
 const REFUSED: u32 = 65536;
 
 // A refusal as one number.
-fn packed(v: refusals::Verdict) -> u32
-    requires { ⌜ 1 ≤ v .number ⌝ }
-    ensures { λ q. ⌜ Packs v q ⌝ }
+fn packed(number: u16, place: u16) -> u32
+    requires { ⌜ 1 ≤ number ⌝ }
+    ensures { λ q. ⌜ Packs (record { number = number; place = place }) q ⌝ }
 {
-    REFUSED * (v.number as u32) + (v.place as u32)
+    REFUSED * (number as u32) + (place as u32)
 }
 
 // The verdict that such a number holds.
@@ -61,7 +62,30 @@ fn type_of(records: &[u8], n: u16) -> u16
     r.ty
 }
 
-// The fault of record n itself, which stands at this level under the binders below the depth.
+// The number of the fault of r, one of the records, which is of this kind, or 0. Where the kind is a literal, no more of its children is read than the
+// kind's rules ask.
+fn judge_as(
+    table: &[u8],
+    records: &[u8],
+    binders: &[u32],
+    depth: usize,
+    level: u16,
+    kind: u16,
+    r: Record,
+) -> u16
+    requires { ⌜ CanJudge (recordsIn (now records)) (now binders) depth r ⌝ }
+    ensures { λ q. ⌜ JudgesRead (entriesIn (now (table .entry))) (recordsIn (now (records .entry))) (stack (now (binders .entry)) depth) level kind r q ⌝ }
+{
+    let s = records::next_of(records, r.first);
+    let e = records::next_of(records, s);
+    let x = type_of(records, r.first);
+    let y = type_of(records, s);
+    let z = type_of(records, e);
+    judging::judge(table, binders, depth, level, kind, r, x, y, z)
+}
+
+// The number of the fault of record n itself, which stands at this level under the binders below the depth, or 0. Kinds of which there are many are
+// named, so that each has code of its own.
 fn own_refusal(
     table: &[u8],
     records: &[u8],
@@ -69,17 +93,21 @@ fn own_refusal(
     depth: usize,
     level: u16,
     n: u16,
-) -> refusals::Verdict
+) -> u16
     requires { ⌜ CanEnter (recordsIn (now records)) (now binders) depth n ⌝ }
-    ensures { λ q. ⌜ Tells q (judgedAt (entriesIn (now (table .entry))) (recordsIn (now (records .entry))) (stack (now (binders .entry)) depth) level n) ⌝ }
+    ensures { λ q. ⌜ JudgesOwn (entriesIn (now (table .entry))) (recordsIn (now (records .entry))) (stack (now (binders .entry)) depth) level n q ⌝ }
 {
     let r = records::record_no(records, n);
-    let s = records::next_of(records, r.first);
-    let e = records::next_of(records, s);
-    let x = type_of(records, r.first);
-    let y = type_of(records, s);
-    let z = type_of(records, e);
-    judging::judge(table, binders, depth, level, n, r, x, y, z)
+    let kind = r.kind;
+    match kind {
+        1 => judge_as(table, records, binders, depth, level, 1, r),
+        2 => judge_as(table, records, binders, depth, level, 2, r),
+        3 => judge_as(table, records, binders, depth, level, 3, r),
+        4 => judge_as(table, records, binders, depth, level, 4, r),
+        7 => judge_as(table, records, binders, depth, level, 7, r),
+        8 => judge_as(table, records, binders, depth, level, 8, r),
+        _ => judge_as(table, records, binders, depth, level, kind, r),
+    }
 }
 
 // Binds a variable of type ty at this level, and returns the new depth.
@@ -156,7 +184,8 @@ pub fn third_child(records: &[u8], n: u16) -> u16
 
 // The first fault in the tree of record n, which stands at this level under the binders below the depth, or how many records are left after it, as
 // one number. `left` is how many records are left, and enough for the tree: where it is 0 no tree is entered. The first child's tree gets all but n,
-// the second's what the first's leaves, the third's what that leaves.
+// the second's what the first's leaves, the third's what that leaves. Whether there is a second is read before the first's tree is walked: a record
+// with one child is not read again after it.
 fn walk(
     table: &[u8],
     records: &[u8],
@@ -170,22 +199,23 @@ fn walk(
     ensures { λ q. ⌜ Walks (entriesIn (now (table .entry))) (recordsIn (now (records .entry))) (now (binders .entry)) (now (binders .exit)) depth level n left q ⌝ }
 {
     let own = own_refusal(table, records, binders, depth, level, n);
-    if own.number != 0 {
-        return packed(own);
+    if own != 0 {
+        return packed(own, n);
     }
     let rest = left - 1;
     let c = first_child(records, binders, depth, level, n);
     if c.n == 0 {
         return rest as u32;
     }
+    let next = records::next_of(records, c.n);
     let first = walk(table, records, binders, c.depth, c.level, c.n, rest);
     if REFUSED <= first {
         return first;
     }
-    let s = second_child(records, binders, depth, level, n);
-    if s.n == 0 {
+    if next == 0 {
         return first;
     }
+    let s = second_child(records, binders, depth, level, n);
     let e = third_child(records, n);
     let second = walk(table, records, binders, s.depth, s.level, s.n, first as u16);
     if REFUSED <= second {

@@ -8,7 +8,6 @@ pub index-ok-spec : {M : Type 1} → statement M
 index-ok-spec =
     tie.close (tie.spec
     (λ c κs. search (indices, needs))  -- use-of-a-requires
-    (λ c. search (indices, needs))  -- cast-result
     (λ c. search (indices, needs))  -- returns
     (λ c. search (indices, needs))  -- returns-2
     )

@@ -9,14 +9,10 @@ judge-spec =
     tie.close (tie.spec
     (λ c κs. search (ordering, needs))  -- binder-at-requires
     (λ c κs. search (ordering, needs))  -- index-ok-requires
-    (λ c κs. search (ordering, needs))  -- refuse-requires
     (λ c. search (ordering, needs))  -- returns
     (λ c κs. search (ordering, needs))  -- level-ok-requires
-    (λ c κs. search (ordering, needs))  -- refuse-requires-2
     (λ c. search (ordering, needs))  -- returns-2
     (λ c κs. search (ordering, needs))  -- type-ok-requires
-    (λ c κs. search (ordering, needs))  -- refuse-requires-3
     (λ c. search (ordering, needs))  -- returns-3
-    (λ c κs. search (ordering, needs))  -- no-refusal-requires
     (λ c. search (ordering, needs))  -- returns-4
     )

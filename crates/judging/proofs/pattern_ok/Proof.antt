@@ -19,12 +19,12 @@ pattern-ok-spec =
     (λ c κs. search needs)  -- both-requires
     (λ c κs. search needs)  -- function-ok-requires
     (λ c κs. search needs)  -- fix-ok-requires
-    (λ c. kind-pattern _ _ _ _ _ _ (ap kindOf (c .before .match .keys1)) (λ Γ g. c .is-nat .ensures))  -- returns
-    (λ c. kind-pattern _ _ _ _ _ _ (ap kindOf (c .match .keys2)) (λ Γ g. equal-test _ _ _ g))  -- returns-2
-    (λ c. shape-pattern _ _ _ _ _ matchApplication (ap kindOf (c .before .match .keys3)) (c .application-ok .ensures))  -- returns-3
-    (λ c. kind-pattern _ _ _ _ _ _ (ap kindOf (c .before .before .before .match .keys4)) (λ Γ g. first-test _ _ _ _ _ (c .before .before .is-nat2 .ensures) (c .before .is-nat3 .ensures) (c .both .ensures)))  -- returns-4
-    (λ c. shape-pattern _ _ _ _ _ matchFunction (ap kindOf (c .before .match .keys5)) (c .function-ok .ensures))  -- returns-5
+    (λ c. kind-pattern _ _ _ _ _ _ _ (ap kindOf (c .before .match .keys1)) (λ Γ g. c .is-nat .ensures))  -- returns
+    (λ c. kind-pattern _ _ _ _ _ _ _ (ap kindOf (c .match .keys2)) (λ Γ g. equal-test _ _ _ g))  -- returns-2
+    (λ c. shape-pattern _ _ _ _ _ _ matchApplication (ap kindOf (c .before .match .keys3)) (c .application-ok .ensures))  -- returns-3
+    (λ c. kind-pattern _ _ _ _ _ _ _ (ap kindOf (c .before .before .before .match .keys4)) (λ Γ g. first-test _ _ _ _ _ (c .before .before .is-nat2 .ensures) (c .before .is-nat3 .ensures) (c .both .ensures)))  -- returns-4
+    (λ c. shape-pattern _ _ _ _ _ _ matchFunction (ap kindOf (c .before .match .keys5)) (c .function-ok .ensures))  -- returns-5
     (λ c.
-    let e : c .before .before .before .args .r .kind ≡ 14 = omega arith in
-    shape-pattern _ _ _ _ _ matchFix (ap kindOf e) (c .fix-ok .ensures))  -- returns-6
+    let e : c .before .before .before .args .kind ≡ 14 = omega arith in
+    shape-pattern _ _ _ _ _ _ matchFix (ap kindOf e) (c .fix-ok .ensures))  -- returns-6
     )

@@ -27,13 +27,13 @@ type-ok-spec =
     (λ c κs. search (a-match, needs))  -- pattern-ok-requires
     (λ c κs. search needs)  -- both-requires-2
     (λ c κs. search needs)  -- is-nat-requires-2
-    (λ c. kind-type _ _ _ _ _ _ _ _ (ap kindOf (c .before .match .keys1)) (λ Γ g. equal-test _ _ _ g))  -- returns
-    (λ c. kind-type _ _ _ _ _ _ _ _ (ap kindOf (c .before .match .keys2)) (λ Γ g. c .is-fn .ensures))  -- returns-2
-    (λ c. kind-type _ _ _ _ _ _ _ _ (ap kindOf (c .before .match .keys3)) (λ Γ g. c .is-fn2 .ensures))  -- returns-3
-    (λ c. kind-type _ _ _ _ _ _ _ _ (ap kindOf (c .before .match .keys4)) (λ Γ g. c .is-fn3 .ensures))  -- returns-4
-    (λ c. kind-type _ _ _ _ _ _ _ _ (ap kindOf (c .before .before .before .match .keys5)) (λ Γ g. first-test _ _ _ _ _ (c .before .before .is-nat .ensures) (c .before .is-code .ensures) (c .both .ensures)))  -- returns-5
-    (λ c. kind-type _ _ _ _ _ _ _ _ (ap kindOf (c .before .match .keys6)) (λ Γ g. c .is-code2 .ensures))  -- returns-6
-    (λ c. kind-type _ _ _ _ _ _ _ _ (ap kindOf (c .before .match .keys7)) (λ Γ g. c .is-code3 .ensures))  -- returns-7
-    (λ c. match-type _ _ _ _ _ _ _ _ _ _ (search (a-match, needs)) (c .before .before .before .entry-if-any .ensures) (c .before .before .match-children-ok .ensures) (c .before .pattern-ok .ensures) (c .both2 .ensures))  -- returns-8
-    (λ c. kind-type _ _ _ _ _ _ _ _ (first-kind _ (λ a b. ⊎-elim (λ w. not-le-of-lt (w .taken) a) (λ w. not-le-of-lt b (w .1 .left)) (c .before .if1 .came))) (λ Γ g. c .is-nat2 .ensures))  -- returns-9
+    (λ c. kind-type _ _ _ _ _ _ _ _ _ (ap kindOf (c .before .match .keys1)) (λ Γ g. equal-test _ _ _ g))  -- returns
+    (λ c. kind-type _ _ _ _ _ _ _ _ _ (ap kindOf (c .before .match .keys2)) (λ Γ g. c .is-fn .ensures))  -- returns-2
+    (λ c. kind-type _ _ _ _ _ _ _ _ _ (ap kindOf (c .before .match .keys3)) (λ Γ g. c .is-fn2 .ensures))  -- returns-3
+    (λ c. kind-type _ _ _ _ _ _ _ _ _ (ap kindOf (c .before .match .keys4)) (λ Γ g. c .is-fn3 .ensures))  -- returns-4
+    (λ c. kind-type _ _ _ _ _ _ _ _ _ (ap kindOf (c .before .before .before .match .keys5)) (λ Γ g. first-test _ _ _ _ _ (c .before .before .is-nat .ensures) (c .before .is-code .ensures) (c .both .ensures)))  -- returns-5
+    (λ c. kind-type _ _ _ _ _ _ _ _ _ (ap kindOf (c .before .match .keys6)) (λ Γ g. c .is-code2 .ensures))  -- returns-6
+    (λ c. kind-type _ _ _ _ _ _ _ _ _ (ap kindOf (c .before .match .keys7)) (λ Γ g. c .is-code3 .ensures))  -- returns-7
+    (λ c. match-type _ _ _ _ _ _ _ _ _ _ _ (search (a-match, needs)) (c .before .before .before .entry-if-any .ensures) (c .before .before .match-children-ok .ensures) (c .before .pattern-ok .ensures) (c .both2 .ensures))  -- returns-8
+    (λ c. kind-type _ _ _ _ _ _ _ _ _ (first-kind _ (λ a b. ⊎-elim (λ w. not-le-of-lt (w .taken) a) (λ w. not-le-of-lt b (w .1 .left)) (c .before .if1 .came))) (λ Γ g. c .is-nat2 .ensures))  -- returns-9
     )

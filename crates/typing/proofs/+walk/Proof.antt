@@ -14,10 +14,11 @@ use Rattle.records.specs.View.{entriesIn, recordsIn}
 use Rattle.judging.specs.Stack.{stack}
 use Rattle.typing.specs.Reading.{secondOf, thirdOf}
 use Rattle.typing.proofs.WalkedBy.{fromSecond, fromThird}
-use Rattle.typing.proofs.WalkLaws.{WalkedSoFar, passes-first, passes-second, walking}
+use Rattle.typing.proofs.WalkLaws.{WalkedSoFar, passed-falls, passes-first, goes-second, passes-second, walking}
 use Rattle.typing.proofs.walk.Reads as walk
 use Rattle.typing.proofs.walk.Kinds as walk-kinds
 use Rattle.typing.proofs.+walk.Lts-walk as walk-lts
+use Rattle.records.proofs.next_of.Reads as next-of-reads
 use Rattle.typing.proofs.first_child.Reads as first-child-reads
 use Rattle.typing.proofs.own_refusal.Reads as own-refusal-reads
 use Rattle.typing.proofs.packed.Reads as packed-reads
@@ -36,7 +37,7 @@ abbrev walk-below : ℕ → In 3 walk-kinds.ps
 walk-below t = and 3 walk-kinds.ps (falls 3 walk-kinds.ps _<_ μ-walk t) walk.Pre
 
 abbrev walk-claims : ℕ → walk-lts.Claims
-walk-claims t = (own-refusal-reads.Asked, own-refusal-reads.Learnt, packed-reads.Asked, packed-reads.Learnt, first-child-reads.Asked, first-child-reads.Learnt, walk-below t, walk.Post, second-child-reads.Asked, second-child-reads.Learnt, third-child-reads.Asked, third-child-reads.Learnt)
+walk-claims t = (own-refusal-reads.Asked, own-refusal-reads.Learnt, packed-reads.Asked, packed-reads.Learnt, first-child-reads.Asked, first-child-reads.Learnt, next-of-reads.Asked, next-of-reads.Learnt, walk-below t, walk.Post, second-child-reads.Asked, second-child-reads.Learnt, third-child-reads.Asked, third-child-reads.Learnt)
 
 -- The places where the record's own checks have passed, where it has a first child, where that child's tree has passed, where it has a second child,
 -- and where that one's has passed; and from each the one before it.
@@ -60,18 +61,18 @@ module _ (t : ℕ) where
   own-of c = c .before .before .before .before .before .before
 
   abbrev child-of : First → HasFirst
-  child-of c = c .before .before .before .before .before
+  child-of c = c .before .before .before .before .before .before
 
   abbrev first-of : HasSecond → First
-  first-of c = c .before .before .before .before .before .before
+  first-of c = c .before
 
   abbrev second-of : Second → HasSecond
-  second-of c = c .before .before .before .before .before .before
+  second-of c = c .before .before .before .before .before .before .before .before .before .before
 
   -- How far the walk has come there.
   abbrev Come : Own → List ℕ → ℕ → (List Record → ℕ → ℕ) → (Table → List Record → Env → ℕ → ℕ → Option Refusal) → Type 0
   Come c bs q child rest =
-      let a = c .before .before .before .before .before .before .before .args in
+      let a = c .before .before .before .before .before .before .args in
       let types = entriesIn (a .table .now) in
       let rs = recordsIn (a .records .now) in
       WalkedSoFar t types rs (a .binders .now) bs (a .depth) (a .level) (a .n) (a .left) q (child rs (a .n)) (rest types rs (stack (a .binders .now) (a .depth)) (a .level) (a .n))
@@ -98,17 +99,20 @@ pub +walk-spec : {M : Type 1} → statement M
     (λ c. search (walking, needs))  -- cast-result
     (λ c. search (walking, needs))  -- same-length-2
     (λ c. search (walking, needs))  -- returns-2
+    (λ c κs. search (walking, needs))  -- next-of-requires
     (λ c κs. (search (walking, needs), search (walking, needs)))  -- walk-requires
     (λ c. search (walking, needs))  -- same-length-3
     (λ c. search (walking, needs))  -- returns-3
-    (λ c κs. search (walking, needs, first-passed t (c .before)))  -- second-child-requires
     (λ c. search (walking, needs))  -- same-length-4
-    (λ c. search (walking, needs, first-passed t (c .before .before .before .before .before .before)))  -- returns-4
-    (λ c κs. search (walking, needs, first-passed t (first-of t c)))  -- third-child-requires
+    (λ c. search (walking, needs, first-passed t (c .before)))  -- returns-4
+    (λ c κs. search (walking, needs, first-passed t (first-of t (c .before))))  -- second-child-requires
+    (λ c κs. search (walking, needs, first-passed t (first-of t (c .before .before .before .before))))  -- third-child-requires
     (λ c. search (walking, needs))  -- cast-walk
-    (λ c κs. search (walking, needs, first-passed t (first-of t (c .before .before))))  -- walk-requires-2
+    (λ c κs.
+    let far = first-passed t (first-of t (c .before .before .before .before .before .before)) in
+    (search (passed-falls, needs, far), search (goes-second, needs, far)))  -- walk-requires-2
     (λ c. search (walking, needs))  -- same-length-5
-    (λ c. search (walking, needs, first-passed t (first-of t (c .before .before .before .before .before .before))))  -- returns-5
+    (λ c. search (walking, needs, first-passed t (first-of t (c .before .before .before .before .before .before .before .before .before .before))))  -- returns-5
     (λ c. search (walking, needs))  -- same-length-6
     (λ c. search (walking, needs, second-passed t (c .before)))  -- returns-6
     (λ c. search (walking, needs))  -- cast-walk-2

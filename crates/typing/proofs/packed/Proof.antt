@@ -7,9 +7,7 @@ use Rattle.typing.proofs.packed.Tie as tie
 pub packed-spec : {M : Type 1} → statement M
 packed-spec =
     tie.close (tie.spec
-    (λ c. search (walking, needs))  -- cast-result
-    (λ c. search (walking, needs))  -- mul-result
-    (λ c. search (walking, needs))  -- cast-result-2
-    (λ c. search (walking, needs))  -- add-result
+    (λ c. search needs)  -- mul-result
+    (λ c. search needs)  -- add-result
     (λ c. search (walking, needs))  -- returns
     )
