@@ -16,7 +16,7 @@ use Rattle.rules.specs.Refusals.{Refusal, NumberedTo, tableFull}
 use Rattle.rules.specs.Check.{entryRule, layoutRefusal}
 use Rattle.rules.specs.Run.{writtenOver, buffersRefusal}
 use Rattle.rules.specs.WholeRun.{Passed}
-use Rattle.inference.specs.Inference.{Begins, retyped, cleared, Inference, faulty, filled, unlessRefused, inferredFrom}
+use Rattle.inference.specs.Inference.{Begins, retypedRecord, cleared, Inference, faulty, filled, unlessRefused, inferredFrom}
 
 -- "Checks: 1 to 9 as for run, except that 7 doesn't look at the type field; 13 a nonzero type field, right after 7, lowest record; then, in place
 -- of preorder, the first faulty record children first, with its lowest of 10, 11, 12 and 14." Those of the program, from 3 on.
@@ -67,7 +67,7 @@ SomeFilling program = (B : Table) × (u : Term) × Filling (tableOf program) (fi
 
 -- A record with its type cleared.
 abbrev pub clearedRecord : Record → Record
-clearedRecord r = record { kind = r .kind; fields = retyped 0 (r .fields); first = r .first; next = r .next }
+clearedRecord = retypedRecord 0
 
 -- What is written for a program: a filling of its tree, of as many records, which passes and is read back as it is: "the output passes, and clearing
 -- its types gives the input's tree back".

@@ -23,9 +23,12 @@ pub record Begins (A B : Table) : Type 0 where
   pub more : Table
   pub whole : B ≡ A ++ more
 
--- The fields with type n, and a term whose types are all 0.
+-- The fields and the record with type n, and a term whose types are all 0.
 abbrev pub retyped : ℕ → Fields → Fields
 retyped n f = record { type = n; a = f .a; b = f .b; value = f .value }
+
+abbrev pub retypedRecord : ℕ → Record → Record
+retypedRecord n r = record { kind = r .kind; fields = retyped n (r .fields); first = r .first; next = r .next }
 
 unfoldable pub cleared : Term → Term
 cleared (leaf k f) = leaf k (retyped 0 f)

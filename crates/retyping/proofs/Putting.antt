@@ -8,12 +8,12 @@ use lib.ListN.{length, getD, set, take, drop, take-append-drop}
 use lib.Seq.{take-all, take-at}
 use Rattle.rules.specs.Terms.{Term}
 use Rattle.rules.specs.Format.{Record as MeantRecord, noRecord}
-use Rattle.inference.specs.Inference.{cleared, typesOf}
+use Rattle.inference.specs.Inference.{retypedRecord, cleared, typesOf}
 use Rattle.records.specs.declared.Record.{Record}
 use Rattle.records.specs.Meant.{recordMeant}
 use Rattle.records.specs.View.{recordsIn, RecordPut}
 use Rattle.terms.specs.Preorder.{preorder, At}
-use Rattle.retyping.specs.Retyping.{retypedRecord, withTypes, PutsTypes}
+use Rattle.retyping.specs.Retyping.{withTypes, PutsTypes}
 use Rattle.retyping.proofs.Types.{types-append, as-many, preorder-typed}
 
 length-with : (ts : List ℕ) (rs : List MeantRecord) → length (withTypes ts rs) ≡ length rs

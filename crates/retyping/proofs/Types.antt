@@ -13,12 +13,12 @@ use Rattle.rules.specs.Values.{plainKind, plain}
 use Rattle.rules.specs.Format.{Record}
 use Rattle.rules.specs.Links.{linked}
 use Rattle.rules.proofs.KindTable.{each-kind}
-use Rattle.inference.specs.Inference.{retyped, cleared, typesOf}
+use Rattle.inference.specs.Inference.{retyped, retypedRecord, cleared, typesOf}
 use Rattle.inference.proofs.Cleared.{size-cleared}
 use Rattle.terms.specs.Preorder.{boundAndPlain, preorder}
 use Rattle.terms.proofs.Trees.{length-preorder}
 use Rattle.terms.proofs.Joined.{first-over, second-over}
-use Rattle.retyping.specs.Retyping.{retypedRecord, withTypes}
+use Rattle.retyping.specs.Retyping.{withTypes}
 
 -- How many types a term has.
 pub length-types : (t : Term) → length (typesOf t) ≡ size t

@@ -8,14 +8,11 @@ use Rattle.rules.specs.Types.{Table}
 use Rattle.rules.specs.Typing.{Typed}
 use Rattle.rules.specs.Format.{Record, mostTypes, mostRecords}
 use Rattle.rules.specs.Links.{rootTree}
-use Rattle.inference.specs.Inference.{retyped, cleared, typesOf}
+use Rattle.inference.specs.Inference.{retypedRecord, cleared, typesOf}
 use Rattle.terms.specs.Loads.{WellLinked}
 use Rattle.writing.specs.Program.{WroteProgram}
 
--- The record with type n, and the records with the types ts, from the first on: all else stays, and so do the records that have no type in ts.
-abbrev pub retypedRecord : ℕ → Record → Record
-retypedRecord n r = record { kind = r .kind; fields = retyped n (r .fields); first = r .first; next = r .next }
-
+-- The records with the types ts, from the first on: all else stays, and so do the records that have no type in ts.
 unfoldable pub withTypes : List ℕ → List Record → List Record
 withTypes [] rs = rs
 withTypes (n ∷ ts) [] = []
