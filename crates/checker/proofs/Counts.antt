@@ -10,11 +10,10 @@ use borrow.Author.Tests.{lt-ltb, le-ltb, eq-eqb, ne-eqb}
 use Rattle.rules.specs.Conditions.{between, atLeast, met, holds}
 use Rattle.rules.specs.Format.{mostTypes, mostRecords, typeCount, recordCount}
 use Rattle.rules.specs.Refusals.{programShort, badCounts, badLength, unless, _then_}
-use Rattle.rules.specs.Check.{countsRule}
+use Rattle.rules.specs.Check.{countsRule, sizeRefusal}
 use Rattle.refusals.specs.declared.Verdict.{Verdict}
 use Rattle.refusals.specs.Tells.{refusalBy, Tells}
 use Rattle.refusals.proofs.Laws.{kept-by-test, broken-by-test}
-use Rattle.checker.specs.Limits.{sizeRefusal}
 
 -- 4: the test of the counts.
 pub counts-told : (T R : ℕ) (p q r : Bool) → p ≡ met (between 1 T mostTypes) → q ≡ met (between 1 R mostRecords) → r ≡ p && q → r ≡ holds (countsRule T R)

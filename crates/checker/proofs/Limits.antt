@@ -13,7 +13,7 @@ use Rattle.rules.specs.Typing.{Typed}
 use Rattle.rules.specs.Format.{tableOf, recordsOf, programBytes}
 use Rattle.rules.specs.Links.{laid, treeOf}
 use Rattle.rules.specs.Refusals.{unless, _then_, lowest}
-use Rattle.rules.specs.Check.{judged, walked, formRefusal, layoutRefusal, refusal, checkAnswer}
+use Rattle.rules.specs.Check.{judged, walked, formRefusal, sizeRefusal, layoutRefusal, refusal, checkAnswer}
 use Rattle.rules.specs.WholeRun.{Passed}
 use Rattle.rules.specs.BenchSheet.{table, nat, natToNat, natCode, num, var, fun}
 use Rattle.rules.specs.Limits.{codes, nested, LimitsPassed}
@@ -23,7 +23,7 @@ use Rattle.rules.proofs.Sheets.{passed-by, passed-good}
 use Rattle.rules.proofs.Bench.{sheet-holds}
 
 codes-passed : Passed firstEdition codes (num 7)
-unfolding size listed tableOf recordsOf laid joined programBytes unless _then_ lowest total judged walked formRefusal layoutRefusal refusal checkAnswer kindOf numbered treeOf
+unfolding size listed tableOf recordsOf laid joined programBytes unless _then_ lowest total judged walked formRefusal sizeRefusal layoutRefusal refusal checkAnswer kindOf numbered treeOf
 codes-passed = passed-by refl refl refl
 
 nested-type : (n : ℕ) → typeOf (nested n) ≡ natCode

@@ -4,15 +4,14 @@ use Prim.Native.Nat.{ℕ, _+_, _*_, _-_, _≤_, _<_}
 use native.Mathlib.Omega.{arith}
 use mathlib.Core.Bool.{false}
 use mathlib.Core.List.{List}
-use mathlib.Core.Option.{Option, none, some}
-use mathlib.Core.Path.{_≡_, refl, sym, ap, _∙_}
+use mathlib.Core.Path.{_≡_, sym, ap, _∙_}
 use lib.ListN.{length, take, drop}
 use Rattle.rules.specs.Conditions.{Holds}
 use Rattle.rules.specs.Editions.{Edition}
 use Rattle.rules.specs.FieldUses.{TypeFields, omitted}
 use Rattle.rules.specs.Format.{typeCount, recordCount, tableOf, recordsOf}
-use Rattle.rules.specs.Refusals.{Refusal, badCounts, badLength, _then_}
-use Rattle.rules.specs.Check.{countsRule, formRefusal, layoutRefusal}
+use Rattle.rules.specs.Refusals.{badCounts, badLength}
+use Rattle.rules.specs.Check.{countsRule, formRefusal, sizeRefusal, layoutRefusal}
 use Rattle.rules.proofs.Tests.{both-pass, holds-unless}
 use Rattle.rules.proofs.Meaning.{types-counted, records-counted}
 use Rattle.kinds.specs.Meant.{typeFieldsMeant}
@@ -21,21 +20,12 @@ use Rattle.records.proofs.Program.{program-table-slice, program-records-slice}
 use Rattle.refusals.specs.declared.Verdict.{Verdict}
 use Rattle.refusals.specs.Tells.{Tells}
 use Rattle.refusals.proofs.Laws.{no-number, tells-first, tells-next}
-use Rattle.checker.specs.Limits.{sizeRefusal, InLimits}
-
-then-grouped : (w x y z : Option Refusal) → (w then x then y) then z ≡ w then x then y then z
-unfolding _then_
-then-grouped (some q) x y z = refl
-then-grouped none (some q) y z = refl
-then-grouped none none y z = refl
-
-size-first : (fields : TypeFields) (edition : Edition) (p : List ℕ) → sizeRefusal p then formRefusal fields edition (tableOf p) (recordsOf p) ≡ layoutRefusal fields edition p
-unfolding sizeRefusal layoutRefusal
-size-first fields edition p = then-grouped _ _ _ _
+use Rattle.checker.specs.Limits.{InLimits}
 
 module _ (p : List ℕ) (s : Verdict) (ts : Tells s (sizeRefusal p)) where
   pub size-refused : (fields : TypeFields) (edition : Edition) → (s .number ≡ 0 → ⊥) → Tells s (layoutRefusal fields edition p)
-  size-refused fields edition n = rw (← size-first fields edition p) (tells-first s _ _ ts n)
+  unfolding layoutRefusal
+  size-refused fields edition n = tells-first s _ _ ts n
 
   module _ (z : s .number ≡ 0) where
     counts : Holds (countsRule (typeCount p) (recordCount p))
@@ -71,7 +61,8 @@ module _ (p : List ℕ) (s : Verdict) (ts : Tells s (sizeRefusal p)) where
       pub form-told : (fields : TypeFields) (edition : Edition) (w : Verdict)
           → Tells w (formRefusal fields edition (entriesIn (take (4 + 6 * T - 4) (drop 4 p))) (recordsIn (take (length p - (4 + 6 * T)) (drop (4 + 6 * T) p))))
           → Tells w (layoutRefusal fields edition p)
-      form-told fields edition w t = rw (← size-first fields edition p) (tells-next s w _ _ ts z (rw (table-is, records-are) t))
+      unfolding layoutRefusal
+      form-told fields edition w t = tells-next s w _ _ ts z (rw (table-is, records-are) t)
 
       -- Where types are omitted.
       pub omitted-form-told : (edition : Edition) (w : Verdict)

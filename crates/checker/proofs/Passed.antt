@@ -9,7 +9,7 @@ use Rattle.rules.specs.Editions.{Edition}
 use Rattle.rules.specs.FieldUses.{TypeFields}
 use Rattle.rules.specs.Format.{typeCount, recordCount, recordsOf}
 use Rattle.rules.specs.Refusals.{badLink, badChildren}
-use Rattle.rules.specs.Check.{linksRule, childrenRule, walked, formRefusal, layoutRefusal, refusal}
+use Rattle.rules.specs.Check.{linksRule, childrenRule, walked, formRefusal, sizeRefusal, layoutRefusal, refusal}
 use Rattle.rules.specs.Meets.{MeetsLayout}
 use Rattle.rules.proofs.Tests.{lowest-holds}
 use Rattle.rules.proofs.Meaning.{records-counted, layout-exactly}
@@ -20,7 +20,6 @@ use Rattle.refusals.specs.declared.Verdict.{Verdict}
 use Rattle.refusals.specs.Tells.{Tells}
 use Rattle.refusals.proofs.Laws.{no-number, tells-first, tells-next}
 use Rattle.typing.specs.Walking.{MakeTree}
-use Rattle.checker.specs.Limits.{sizeRefusal}
 use Rattle.checker.proofs.Parts.{form-told}
 
 module _ (fields : TypeFields) (edition : Edition) (p : List ℕ) (l : Verdict) (tl : Tells l (layoutRefusal fields edition p)) (z : l .number ≡ 0) where

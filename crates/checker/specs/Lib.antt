@@ -1,2 +1,2 @@
--- What the contracts of the crate ask, and what that of `size_refusal` tells.
+-- What the contracts of the crate ask.
 pub mod Limits

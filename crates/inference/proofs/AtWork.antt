@@ -11,7 +11,7 @@ use Rattle.rules.specs.Types.{Table, Nat, Fn, Code}
 use Rattle.rules.specs.Format.{tableOf, recordsOf, programBytes}
 use Rattle.rules.specs.Links.{laid, written}
 use Rattle.rules.specs.Refusals.{badLevel, badType, typeWritten, tableFull, unless, _then_, lowest}
-use Rattle.rules.specs.Check.{judged, formRefusal, layoutRefusal}
+use Rattle.rules.specs.Check.{judged, formRefusal, sizeRefusal, layoutRefusal}
 use Rattle.rules.specs.Limits.{codes}
 use Rattle.inference.specs.Inference.{retyped, having, before, Inference, faulty, filled, unlessRefused, _andThen_, assigned, inferredFrom}
 use Rattle.inference.specs.Infer.{inference}
@@ -29,7 +29,7 @@ literal v = record { type = 0; a = 0; b = 0; value = v }
 
 -- 13: the one record of this program has its type written.
 pub type-written : inference firstEdition (written (Nat ∷ []) (leaf number (retyped 1 (literal 42)))) ≡ faulty (record { number = typeWritten; place = 1 })
-unfolding total listed joined size tableOf recordsOf programBytes laid kindOf numbered unless _then_ lowest formRefusal layoutRefusal unlessRefused inference
+unfolding total listed joined size tableOf recordsOf programBytes laid kindOf numbered unless _then_ lowest formRefusal sizeRefusal layoutRefusal unlessRefused inference
 type-written = refl
 
 -- `codes` has 256 entries: Nat, Code(1), Code(2), .. 14: Fn(1,1) would be a 257th.

@@ -18,7 +18,7 @@ use Rattle.rules.specs.Next.{waits, next}
 use Rattle.rules.specs.Format.{mostRecords, tableOf, recordsOf, programBytes}
 use Rattle.rules.specs.Links.{laid, treeOf}
 use Rattle.rules.specs.Refusals.{unless, _then_, lowest}
-use Rattle.rules.specs.Check.{judged, walked, formRefusal, layoutRefusal, refusal, checkAnswer}
+use Rattle.rules.specs.Check.{judged, walked, formRefusal, sizeRefusal, layoutRefusal, refusal, checkAnswer}
 use Rattle.rules.specs.Run.{Outcome, spent, full, course, outcomeOf, oneMore, run}
 use Rattle.rules.specs.BenchSheet.{table, nat, identity, fixed, grow, grown, short, long, sheet, Kept}
 use Rattle.rules.specs.Slips.{slips}
@@ -28,7 +28,7 @@ use Rattle.rules.proofs.Courses.{course-more}
 use Rattle.rules.proofs.Sheets.{passed-by, Computed, each-kept}
 
 short-computed : All Computed short
-unfolding changed raised replaced wrapped size plain value summed gaveWay matched waits next course listed tableOf recordsOf laid joined programBytes unless _then_ lowest total judged walked formRefusal layoutRefusal refusal checkAnswer kindOf numbered treeOf
+unfolding changed raised replaced wrapped size plain value summed gaveWay matched waits next course listed tableOf recordsOf laid joined programBytes unless _then_ lowest total judged walked formRefusal sizeRefusal layoutRefusal refusal checkAnswer kindOf numbered treeOf
 short-computed =
     record { passed = passed-by refl refl refl; comes-to = refl; counted = refl }
     & record { passed = passed-by refl refl refl; comes-to = refl; counted = refl }
@@ -137,7 +137,7 @@ k10-records = grown-size 680
 
 -- With `course` shut, so that a slip here is not answered by computing two long runs.
 long-computed : All Computed long
-unfolding size listed tableOf recordsOf laid joined programBytes unless _then_ lowest total judged walked formRefusal layoutRefusal refusal checkAnswer kindOf numbered treeOf
+unfolding size listed tableOf recordsOf laid joined programBytes unless _then_ lowest total judged walked formRefusal sizeRefusal layoutRefusal refusal checkAnswer kindOf numbered treeOf
 long-computed =
     record { passed = passed-by refl refl refl; comes-to = k9 1000; counted = refl }
     & record { passed = passed-by refl refl refl; comes-to = k10; counted = k10-records }
@@ -149,7 +149,7 @@ sheet-holds = each-kept sheet (all-append Computed short long short-computed lon
 
 -- The cases for the slips that the sheet does not catch.
 slips-computed : All Computed slips
-unfolding changed raised replaced wrapped size plain value summed gaveWay matched waits next course listed tableOf recordsOf laid joined programBytes unless _then_ lowest total judged walked formRefusal layoutRefusal refusal checkAnswer kindOf numbered treeOf
+unfolding changed raised replaced wrapped size plain value summed gaveWay matched waits next course listed tableOf recordsOf laid joined programBytes unless _then_ lowest total judged walked formRefusal sizeRefusal layoutRefusal refusal checkAnswer kindOf numbered treeOf
 slips-computed =
     record { passed = passed-by refl refl refl; comes-to = refl; counted = refl }
     & record { passed = passed-by refl refl refl; comes-to = refl; counted = refl }

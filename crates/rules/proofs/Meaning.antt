@@ -16,7 +16,7 @@ use Rattle.rules.specs.Format.{Record, typeCount, recordCount, tableOf, 
 use Rattle.rules.specs.Links.{firstTerm, NoBadLink}
 use Rattle.rules.specs.Refusals.{Refusal, OneOfTwelve, outputShort, workShort, programShort, badCounts, badLength, badEntry, badField, badLink, badChildren, typeWritten, lowest}
 use Rattle.rules.specs.FieldUses.{TypeFields, given}
-use Rattle.rules.specs.Check.{entryRule, formRefusal, layoutRefusal, refusal, checkAnswer, passing, typeNo, linksRule}
+use Rattle.rules.specs.Check.{entryRule, formRefusal, sizeRefusal, layoutRefusal, refusal, checkAnswer, passing, typeNo, linksRule}
 use Rattle.rules.specs.Run.{outputNeeded, workNeeded, buffersRefusal}
 use Rattle.rules.specs.Meets.{MeetsForm, MeetsLayout, Meets}
 use Rattle.rules.proofs.General.{is-true, length-listed, Gives}
@@ -67,17 +67,19 @@ records-counted program = length-listed _ 0 (recordCount program)
 
 -- A layout is passed exactly when its rules are met.
 pub layout-exactly : (fields : TypeFields) (edition : Edition) (program : List ℕ) → layoutRefusal fields edition program ≡ none ↔ MeetsLayout fields edition program
-unfolding layoutRefusal
+unfolding sizeRefusal layoutRefusal
 layout-exactly fields edition program = (
   λ h.
-      let (h3, h₁) = both-pass _ _ h in
-      let (h4, h₂) = both-pass _ _ h₁ in
-      let (h5, h₃) = both-pass _ _ h₂ in
-      record { counts = holds-unless _ badCounts 0 h4; exact = holds-unless _ badLength 0 h5 .0; form = form-met fields edition (tableOf program) (recordsOf program) h₃ },
+      let (h₁, h₂) = both-pass _ _ h in
+      let (h3, h₃) = both-pass _ _ h₁ in
+      let (h4, h5) = both-pass _ _ h₃ in
+      record { counts = holds-unless _ badCounts 0 h4; exact = holds-unless _ badLength 0 h5 .0; form = form-met fields edition (tableOf program) (recordsOf program) h₂ },
   λ m.
       let c = m .counts in
       let e = m .exact in
-      pass-both (unless-holds _ programShort 0 (omega (arith, c .0), tt)) (pass-both (unless-holds _ badCounts 0 c) (pass-both (unless-holds _ badLength 0 (e, tt)) (met-form fields edition (tableOf program) (recordsOf program) (m .form)))),
+      pass-both
+      (pass-both (unless-holds _ programShort 0 (omega (arith, c .0), tt)) (pass-both (unless-holds _ badCounts 0 c) (unless-holds _ badLength 0 (e, tt))))
+      (met-form fields edition (tableOf program) (recordsOf program) (m .form)),
 )
 
 -- Buffers that are long enough are not refused.

@@ -4,7 +4,7 @@ use Rattle.rules.specs.Lists.{All, listed, joined, total}
 use Rattle.rules.specs.Kinds.{kindOf, numbered}
 use Rattle.rules.specs.Format.{tableOf, recordsOf, programBytes}
 use Rattle.rules.specs.Refusals.{unless, _then_, lowest}
-use Rattle.rules.specs.Check.{judged, walked, formRefusal, layoutRefusal, refusal, checkAnswer}
+use Rattle.rules.specs.Check.{judged, walked, formRefusal, sizeRefusal, layoutRefusal, refusal, checkAnswer}
 use Rattle.rules.specs.Run.{runAnswer}
 use Rattle.rules.specs.SmallInputs.{shortBuffers, BuffersRefused, smallPrograms, ProgramRefused}
 use Rattle.rules.proofs.General.{_&_}
@@ -14,7 +14,7 @@ unfolding unless _then_ runAnswer
 buffers-refused = (λ program fuel. refl) & (λ program fuel. refl) & (λ program fuel. refl) & tt
 
 pub small-refused : All ProgramRefused smallPrograms
-unfolding listed tableOf recordsOf joined programBytes unless _then_ lowest total judged walked formRefusal layoutRefusal refusal checkAnswer runAnswer kindOf numbered
+unfolding listed tableOf recordsOf joined programBytes unless _then_ lowest total judged walked formRefusal sizeRefusal layoutRefusal refusal checkAnswer runAnswer kindOf numbered
 small-refused =
     record { check = refl; run = λ fuel. refl }
     & record { check = refl; run = λ fuel. refl }

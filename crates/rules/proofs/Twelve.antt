@@ -15,7 +15,7 @@ use Rattle.rules.specs.FieldUses.{TypeFields, given}
 use Rattle.rules.specs.Typing.{Env}
 use Rattle.rules.specs.Format.{Record, tableOf, recordsOf}
 use Rattle.rules.specs.Refusals.{Refusal, NumberedTo, OneOfTwelve, outputShort, workShort, programShort, badCounts, badLength, badEntry, badField, badLink, badChildren, badIndex, badLevel, badType, typeWritten, unless, _then_, lowest}
-use Rattle.rules.specs.Check.{omittedRule, judged, walked, formRefusal, layoutRefusal, refusal}
+use Rattle.rules.specs.Check.{omittedRule, judged, walked, formRefusal, sizeRefusal, layoutRefusal, refusal}
 use Rattle.rules.specs.Run.{buffersRefusal, runRefusal}
 use Rattle.rules.proofs.General.{Gives}
 use Rattle.rules.proofs.Tests.{lowest-holds}
@@ -51,15 +51,15 @@ module _ (most : ℕ) (high : badType ≤ most) where
   -- A layout's, where 13 is among them or asks nothing.
   pub layout-by : (fields : TypeFields) (edition : Edition) (program : List ℕ) → Among (lowest (omittedRule fields (recordsOf program)) typeWritten 1 (length (recordsOf program)))
       → Among (layoutRefusal fields edition program)
-  unfolding layoutRefusal formRefusal
+  unfolding formRefusal sizeRefusal layoutRefusal
   layout-by fields edition program thirteen =
-      either _ _ (by _ programShort 0 (omega arith) (omega arith))
-      (either _ _ (by _ badCounts 0 (omega arith) (omega arith))
-      (either _ _ (by _ badLength 0 (omega arith) (omega arith))
+      either _ _
+      (either _ _ (by _ programShort 0 (omega arith) (omega arith))
+      (either _ _ (by _ badCounts 0 (omega arith) (omega arith)) (by _ badLength 0 (omega arith) (omega arith))))
       (either _ _ (lowest-by _ badEntry _ _ (omega arith) (omega arith))
       (either _ _ (lowest-by _ badField _ _ (omega arith) (omega arith))
       (either _ _ thirteen
-      (either _ _ (lowest-by _ badLink _ _ (omega arith) (omega arith)) (lowest-by _ badChildren _ _ (omega arith) (omega arith))))))))
+      (either _ _ (lowest-by _ badLink _ _ (omega arith) (omega arith)) (lowest-by _ badChildren _ _ (omega arith) (omega arith))))))
 
   -- Those of the buffers, before a program's.
   pub buffers-by : (outLength workLength : ℕ) (o : Option Refusal) → Among o → Among (buffersRefusal outLength workLength then o)

@@ -108,15 +108,18 @@ formRefusal fields edition types rs =
     then lowest (linksRule rs) badLink 1 (length rs)
     then lowest (childrenRule rs) badChildren 1 (length rs)
 
--- 3 to 9, of a program of the edition, with 13: what is asked of it before its types are looked at.
-unfoldable pub layoutRefusal : TypeFields → Edition → List ℕ → Option Refusal
-layoutRefusal fields edition bytes =
+-- 3, 4 and 5, of a program: "program under 4 bytes", "T or R outside its limits", "length isn't 4 + 6×T + 16×R".
+unfoldable pub sizeRefusal : List ℕ → Option Refusal
+sizeRefusal bytes =
     let T = typeCount bytes in
     let R = recordCount bytes in
     unless (atLeast 4 (length bytes) ∷ []) programShort 0
     then unless (countsRule T R) badCounts 0
     then unless (equal (length bytes) (4 + 6 * T + 16 * R) ∷ []) badLength 0
-    then formRefusal fields edition (tableOf bytes) (recordsOf bytes)
+
+-- 3 to 9, of a program of the edition, with 13: what is asked of it before its types are looked at.
+unfoldable pub layoutRefusal : TypeFields → Edition → List ℕ → Option Refusal
+layoutRefusal fields edition bytes = sizeRefusal bytes then formRefusal fields edition (tableOf bytes) (recordsOf bytes)
 
 -- 3 to 12, of a program of the edition; `none` where it is passed. "The root stands at level 0 under no binders."
 unfoldable pub refusal : Edition → List ℕ → Option Refusal
