@@ -7,26 +7,27 @@ use mathlib.Core.Path.{_≡_, refl, ap, sym, subst, _∙_}
 use lib.ListN.{length, take}
 use lib.Seq.{length-take-le}
 use borrow.Author.Tests.{lt-ltb, le-ltb}
+use Rattle.rules.specs.Kinds.{kindOf}
 use Rattle.rules.specs.Types.{Table}
 use Rattle.rules.specs.Typing.{Env}
 use Rattle.rules.specs.Format.{mostTypes}
 use Rattle.rules.specs.Refusals.{tableFull, unless, _then_}
-use Rattle.inference.specs.Inference.{tableFor}
+use Rattle.inference.specs.Inference.{retyped, faultIn}
 use Rattle.records.specs.declared.Entry.{Entry}
 use Rattle.records.specs.declared.Record.{Record}
-use Rattle.records.specs.Meant.{entryMeant, recordMeant}
+use Rattle.records.specs.Meant.{entryMeant}
 use Rattle.records.specs.View.{entriesIn}
 use Rattle.records.proofs.Entries.{entries-length, entries-front}
 use Rattle.refusals.specs.declared.Verdict.{Verdict}
 use Rattle.refusals.specs.Tells.{Tells, refusalBy, verdictAt}
 use Rattle.refusals.proofs.Laws.{tells-placed, some-number, tells-next}
 use Rattle.judging.specs.Stack.{stack}
-use Rattle.judging.specs.Tests.{Judges}
+use Rattle.judging.specs.Tests.{fieldsMeant, Judges}
 use Rattle.tables.specs.declared.Held.{Held}
 use Rattle.tables.specs.Having.{CanHave, Has}
 use Rattle.assigning.specs.declared.Candidate.{Candidate}
 use Rattle.assigning.specs.declared.Candidate.the-variants.{Known, Made}
-use Rattle.assigning.specs.Assigning.{wantedMeant, wantedFor, Wants, HasWanted, HasCandidate, faultIn, faultFor, Assigns}
+use Rattle.assigning.specs.Assigning.{wantedMeant, wantedFor, Wants, HasWanted, HasCandidate, faultFor, Assigns}
 
 -- A number that is known, and that of an entry that is made.
 pub has-known : (es : Table) (types n : ℕ) → HasCandidate es es types (Known n) (record { number = n; types = types })
@@ -42,18 +43,20 @@ pub judges-known : (types : Table) (Γ : Env) (l k : ℕ) (r : Record) (x y z q 
 judges-known types Γ l k r x y z q e h = subst (λ i. Judges types Γ l i r x y z q) (sym e) h
 
 -- The record's own fault, whose number is q, then 14.
-module _ (types : Table) (count : ℕ) (Γ : Env) (l n : ℕ) (r : Record) (x y z q : ℕ) (own : Judges types Γ l (r .kind) r x y z q) (v : Verdict) where
-  pub own-fault : (q ≡ 0 → ⊥) → Tells v (some (refusalBy q n)) → Tells v (faultIn types count Γ l n (recordMeant r) x y z)
-  unfolding faultIn _then_
+module _ (s : List ℕ) (Γ : Env) (l n : ℕ) (r : Record) (x y z q : ℕ) (own : Judges (entriesIn s) Γ l (r .kind) r x y z q) (v : Verdict) where
+  pub own-fault : (q ≡ 0 → ⊥) → Tells v (some (refusalBy q n)) → Tells v (faultIn (entriesIn s) Γ l n (kindOf (r .kind)) (fieldsMeant r) x y z)
+  unfolding _then_
   own-fault h t = rw (some-number _ _ (tells-placed q n _ h (own .tells n)) h) t
 
-  pub full-fault : q ≡ 0 → mostTypes < count → Tells v (some (refusalBy tableFull n)) → Tells v (faultIn types count Γ l n (recordMeant r) x y z)
-  unfolding faultIn unless
-  full-fault e h t = tells-next (verdictAt q n) v _ _ (own .tells n) e (rw (le-ltb count (suc mostTypes) (omega arith)) t)
+  -- The bytes are `count` entries.
+  module _ (count : ℕ) (long : 6 * count ≡ length s) where
+    pub full-fault : q ≡ 0 → mostTypes < count → Tells v (some (refusalBy tableFull n)) → Tells v (faultIn (entriesIn s) Γ l n (kindOf (r .kind)) (fieldsMeant r) x y z)
+    unfolding unless
+    full-fault e h t = tells-next (verdictAt q n) v _ _ (own .tells n) e (rw (le-ltb (length (entriesIn s)) (suc mostTypes) (omega (arith, entries-length s))) t)
 
-  pub no-fault : q ≡ 0 → count ≤ mostTypes → Tells v none → Tells v (faultIn types count Γ l n (recordMeant r) x y z)
-  unfolding faultIn unless
-  no-fault e h t = tells-next (verdictAt q n) v _ _ (own .tells n) e (rw (lt-ltb count (suc mostTypes) (omega arith)) t)
+    pub no-fault : q ≡ 0 → count ≤ mostTypes → Tells v none → Tells v (faultIn (entriesIn s) Γ l n (kindOf (r .kind)) (fieldsMeant r) x y z)
+    unfolding unless
+    no-fault e h t = tells-next (verdictAt q n) v _ _ (own .tells n) e (rw (lt-ltb (length (entriesIn s)) (suc mostTypes) (omega (arith, entries-length s))) t)
 
 -- What is wanted, given to the record; the parts of the buffer that are lent are the first entries.
 module _ (s : List ℕ) (types : ℕ) (can : CanHave (entriesIn s) types) where
@@ -82,14 +85,11 @@ module _ (s s′ : List ℕ) (types : ℕ) (w : Candidate) (r : Held) (can : Can
     held-so : HasWanted (entriesIn s) (entriesIn s′) types (wantedFor A (stack bs d) o x y) (r .number) (r .types)
     held-so = rw wanted-is at (has .does)
 
-    counted : r .types ≡ length (tableFor A (wantedFor A (stack bs d) o x y))
-    counted = sym (length-take-le (r .types) (entriesIn s′) (omega (arith, can .room, has .does .fits, has .does .room))) ∙ ap length (held-so .table)
-
-    pub assigns : Tells v (faultIn (entriesIn (take (6 * r .types) s′)) (r .types) (stack bs d) l n (record { kind = o .kind; fields = record { type = r .number; a = o .a; b = o .b; value = o .value }; first = o .first; next = o .next }) x y z)
+    pub assigns : Tells v (faultIn (entriesIn (take (6 * r .types) s′)) (stack bs d) l n (kindOf (o .kind)) (retyped (r .number) (fieldsMeant o)) x y z)
         → Assigns (entriesIn s) (entriesIn s′) types (stack bs d) l n o x y z (record { number = v .number; place = v .place; ty = r .number; types = r .types })
-    unfolding faultIn faultFor
+    unfolding faultFor
     assigns t = record {
-      tells = rw (← counted, ← held-so .table, ← held-so .number, ← entries-front s′ (r .types) held-fits) t;
+      tells = rw (← held-so .table, ← held-so .number, ← entries-front s′ (r .types) held-fits) t;
       held = held-so;
     }
 

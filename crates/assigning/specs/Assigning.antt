@@ -1,17 +1,14 @@
 -- What it is to give a record its type: what is wanted, the table that has it, and the record's fault with it.
 use Prim.Native.Nat.{ℕ, suc, _≤_}
-use mathlib.Core.List.{List, [], _∷_}
+use mathlib.Core.List.{List}
 use mathlib.Core.Option.{Option}
 use mathlib.Core.Path.{_≡_}
 use lib.ListN.{length, take}
 use Rattle.rules.specs.Kinds.{kindOf}
 use Rattle.rules.specs.Types.{Table}
-use Rattle.rules.specs.Conditions.{atLeast}
 use Rattle.rules.specs.Typing.{Env}
-use Rattle.rules.specs.Format.{Record as MeantRecord, mostTypes}
-use Rattle.rules.specs.Refusals.{Refusal, tableFull, unless, _then_}
-use Rattle.rules.specs.Check.{judged}
-use Rattle.inference.specs.Inference.{retyped, Wanted, known, made, wanted, tableFor, numberFor}
+use Rattle.rules.specs.Refusals.{Refusal}
+use Rattle.inference.specs.Inference.{retyped, Wanted, known, made, wanted, tableFor, numberFor, faultIn}
 use Rattle.records.specs.declared.Record.{Record}
 use Rattle.records.specs.Meant.{entryMeant}
 use Rattle.refusals.specs.Tells.{Tells}
@@ -45,16 +42,11 @@ pub record HasWanted (es es′ : Table) (types : ℕ) (w : Wanted) (n count : �
 pub record HasCandidate (es es′ : Table) (types : ℕ) (w : Candidate) (r : Held) : Type 0 where
   pub does : HasWanted es es′ types (wantedMeant w) (r .number) (r .types)
 
--- The fault of record n, which is r with its type, in a table of so many entries: "with its lowest of 10, 11, 12 and 14".
-unfoldable pub faultIn : Table → ℕ → Env → ℕ → ℕ → MeantRecord → ℕ → ℕ → ℕ → Option Refusal
-faultIn types count Γ l n r x y z = judged types Γ l n (kindOf (r .kind)) (r .fields) x y z then unless (atLeast count mostTypes ∷ []) tableFull n
-
--- The fault that it has with the type that is wanted for it.
+-- The fault of record n, which is r, with the type that is wanted for it.
 unfoldable pub faultFor : Table → Env → ℕ → ℕ → Record → ℕ → ℕ → ℕ → Option Refusal
 faultFor types Γ l n r x y z =
     let w = wantedFor types Γ r x y in
-    let types′ = tableFor types w in
-    judged types′ Γ l n (kindOf (r .kind)) (retyped (numberFor types w) (fieldsMeant r)) x y z then unless (atLeast (length types′) mostTypes ∷ []) tableFull n
+    faultIn (tableFor types w) Γ l n (kindOf (r .kind)) (retyped (numberFor types w) (fieldsMeant r)) x y z
 
 -- There is room for one more entry, and for the binders.
 pub record CanAssign (es : Table) (types : ℕ) (bs : List ℕ) (depth : ℕ) : Type 0 where

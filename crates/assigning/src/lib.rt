@@ -1,14 +1,16 @@
 // The type of one record whose children have theirs: the one type that it can have, made from its kind, fields, binders and children's types, and then
 // judged as check judges a written one. A type that the table lacks is appended to it.
-ghost use Prim.Native.Nat.{_≤_};
+ghost use Prim.Native.Nat.{_*_, _≤_};
+ghost use mathlib.Core.Path.{_≡_};
 ghost use lib.ListN.{length};
+ghost use Rattle.rules.specs.Kinds.{kindOf};
+ghost use Rattle.inference.specs.Inference.{faultIn};
 ghost use Rattle.records.specs.View.{entriesIn};
-ghost use Rattle.records.specs.Meant.{recordMeant};
 ghost use Rattle.refusals.specs.Tells.{Tells};
 ghost use Rattle.judging.specs.Stack.{stack};
-ghost use Rattle.judging.specs.Tests.{Judges};
+ghost use Rattle.judging.specs.Tests.{fieldsMeant, Judges};
 ghost use Rattle.tables.specs.Having.{CanHave};
-ghost use Rattle.assigning.specs.Assigning.{Wants, HasCandidate, faultIn, CanAssign, Assigns};
+ghost use Rattle.assigning.specs.Assigning.{Wants, HasCandidate, CanAssign, Assigns};
 use records::Entry;
 use records::Record;
 use refusals::Verdict;
@@ -118,8 +120,9 @@ fn fault(
     y: u16,
     z: u16,
 ) -> Verdict
+    requires { ⌜ 6 * types ≡ length (now table) ⌝ }
     requires { ⌜ depth ≤ length (now binders) ⌝ }
-    ensures { λ v. ⌜ Tells v (faultIn (entriesIn (now (table .entry))) types (stack (now (binders .entry)) depth) level n (recordMeant r) x y z) ⌝ }
+    ensures { λ v. ⌜ Tells v (faultIn (entriesIn (now (table .entry))) (stack (now (binders .entry)) depth) level n (kindOf (r .kind)) (fieldsMeant r) x y z) ⌝ }
 {
     let own = own_fault(table, binders, depth, level, r, x, y, z);
     if own != 0 {

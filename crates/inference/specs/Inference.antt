@@ -111,15 +111,18 @@ unfoldable pub _andThen_ : Inference → (Table → Term → Inference) → Infe
 faulty r andThen g = faulty r
 filled types t andThen g = g types t
 
--- Record n of kind k and fields f at level l under Γ, whose children are the typed c, s and e: it gets its type, or it is faulty, "with its lowest of
--- 10, 11, 12 and 14". The rules are judged in the table that has its type, a 257th entry too.
+-- The fault of record n of kind k at level l under Γ, in the table that has its type, a 257th entry too: "with its lowest of 10, 11, 12 and 14". That type
+-- is in its fields f; x, y and z are its children's types.
+abbrev pub faultIn : Table → Env → ℕ → ℕ → Kind → Fields → ℕ → ℕ → ℕ → Option Refusal
+faultIn types Γ l n k f x y z = judged types Γ l n k f x y z then unless (atLeast (length types) mostTypes ∷ []) tableFull n
+
+-- Record n of kind k and fields f at level l under Γ, whose children are the typed c, s and e: it gets its type, or it is faulty.
 unfoldable pub assigned : Table → Env → ℕ → Kind → Fields → ℕ → Term → Term → Term → Inference
 assigned types Γ l k f n c s e =
     let w = wanted types Γ k f (typeOf c) (typeOf s) in
     let types′ = tableFor types w in
     let g = retyped (numberFor types w) f in
-    let fault = judged types′ Γ l n k g (typeOf c) (typeOf s) (typeOf e) then unless (atLeast (length types′) mostTypes ∷ []) tableFull n in
-    unlessRefused fault (filled types′ (node k g c s e))
+    unlessRefused (faultIn types′ Γ l n k g (typeOf c) (typeOf s) (typeOf e)) (filled types′ (node k g c s e))
 
 -- What stands for a child that is not there.
 abbrev pub noTerm : Term
