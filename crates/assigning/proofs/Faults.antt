@@ -24,10 +24,15 @@ use Rattle.refusals.proofs.Laws.{tells-placed, some-number, tells-next}
 use Rattle.judging.specs.Stack.{stack}
 use Rattle.judging.specs.Tests.{fieldsMeant, Judges}
 use Rattle.tables.specs.declared.Held.{Held}
-use Rattle.tables.specs.Having.{CanHave, Has}
+use Rattle.tables.specs.Having.{CanGrow, CanHave, Has}
 use Rattle.assigning.specs.declared.Candidate.{Candidate}
 use Rattle.assigning.specs.declared.Candidate.the-variants.{Known, Made}
-use Rattle.assigning.specs.Assigning.{wantedMeant, wantedFor, Wants, HasWanted, HasCandidate, faultFor, Assigns}
+use Rattle.assigning.specs.Assigning.{wantedMeant, wantedFor, Wants, MayFollow, CanHold, HasWanted, HasCandidate, faultFor, Assigns}
+
+-- An entry that is made may be had.
+pub can-have : (es : Table) (types : ℕ) (w : Candidate) (e : Entry) → CanHold es types w → w ≡ Made e → CanHave es types (entryMeant e)
+unfolding wantedMeant MayFollow
+can-have es types w e can is = record { table = can .table; parts = rw is at (can .follows) }
 
 -- A number that is known, and that of an entry that is made.
 pub has-known : (es : Table) (types n : ℕ) → HasCandidate es es types (Known n) (record { number = n; types = types })
@@ -59,7 +64,7 @@ module _ (s : List ℕ) (Γ : Env) (l n : ℕ) (r : Record) (x y z q : ℕ) (own
     no-fault e h t = tells-next (verdictAt q n) v _ _ (own .tells n) e (rw (lt-ltb (length (entriesIn s)) (suc mostTypes) (omega (arith, entries-length s))) t)
 
 -- What is wanted, given to the record; the parts of the buffer that are lent are the first entries.
-module _ (s : List ℕ) (types : ℕ) (can : CanHave (entriesIn s) types) where
+module _ (s : List ℕ) (types : ℕ) (can : CanGrow (entriesIn s) types) where
   -- So many bytes of the buffer are so many entries.
   pub front-fits : 6 * types ≤ length s
   front-fits = omega (arith, can .room, entries-length s)
@@ -67,7 +72,14 @@ module _ (s : List ℕ) (types : ℕ) (can : CanHave (entriesIn s) types) where
   pub front-long : 6 * types ≡ length (take (6 * types) s)
   front-long = sym (length-take-le (6 * types) s front-fits)
 
-module _ (s s′ : List ℕ) (types : ℕ) (w : Candidate) (r : Held) (can : CanHave (entriesIn s) types) (has : HasCandidate (entriesIn s) (entriesIn s′) types w r) where
+  module _ (bs : List ℕ) (d : ℕ) (o : Record) (x y : ℕ) (w : Candidate) (wants : Wants (entriesIn (take (6 * types) s)) (stack bs d) o x y w) where
+    wanted-is : wantedMeant w ≡ wantedFor (take types (entriesIn s)) (stack bs d) o x y
+    wanted-is = wants .is ∙ ap (λ t. wantedFor t (stack bs d) o x y) (entries-front s types front-fits)
+
+    pub can-hold : MayFollow types (wantedFor (take types (entriesIn s)) (stack bs d) o x y) → CanHold (entriesIn s) types w
+    can-hold f = record { table = can; follows = rw wanted-is f }
+
+module _ (s s′ : List ℕ) (types : ℕ) (w : Candidate) (r : Held) (can : CanGrow (entriesIn s) types) (has : HasCandidate (entriesIn s) (entriesIn s′) types w r) where
   pub held-fits : 6 * r .types ≤ length s′
   held-fits = omega (arith, can .room, has .does .fits, has .does .room, entries-length s′)
 
@@ -79,11 +91,8 @@ module _ (s s′ : List ℕ) (types : ℕ) (w : Candidate) (r : Held) (can : Can
     abbrev A : Table
     A = take types (entriesIn s)
 
-    wanted-is : wantedMeant w ≡ wantedFor A (stack bs d) o x y
-    wanted-is = wants .is ∙ ap (λ t. wantedFor t (stack bs d) o x y) (entries-front s types (front-fits s types can))
-
     held-so : HasWanted (entriesIn s) (entriesIn s′) types (wantedFor A (stack bs d) o x y) (r .number) (r .types)
-    held-so = rw wanted-is at (has .does)
+    held-so = rw (wanted-is s types can bs d o x y w wants) at (has .does)
 
     pub assigns : Tells v (faultIn (entriesIn (take (6 * r .types) s′)) (stack bs d) l n (kindOf (o .kind)) (retyped (r .number) (fieldsMeant o)) x y z)
         → Assigns (entriesIn s) (entriesIn s′) types (stack bs d) l n o x y z (record { number = v .number; place = v .place; ty = r .number; types = r .types })
@@ -93,4 +102,4 @@ module _ (s s′ : List ℕ) (types : ℕ) (w : Candidate) (r : Held) (can : Can
       held = held-so;
     }
 
-pub ruleset assigning = (has-known, has-made, own-fault, full-fault, no-fault, front-fits, front-long, held-fits, held-long, assigns)
+pub ruleset assigning = (has-known, has-made, own-fault, full-fault, no-fault, front-fits, front-long, can-hold, held-fits, held-long, assigns)

@@ -9,8 +9,7 @@ ghost use Rattle.records.specs.View.{entriesIn};
 ghost use Rattle.refusals.specs.Tells.{Tells};
 ghost use Rattle.judging.specs.Stack.{stack};
 ghost use Rattle.judging.specs.Tests.{fieldsMeant, Judges};
-ghost use Rattle.tables.specs.Having.{CanHave};
-ghost use Rattle.assigning.specs.Assigning.{Wants, HasCandidate, CanAssign, Assigns};
+ghost use Rattle.assigning.specs.Assigning.{Wants, CanHold, HasCandidate, CanAssign, Assigns};
 use records::Entry;
 use records::Record;
 use refusals::Verdict;
@@ -71,7 +70,7 @@ fn wanted(table: &[u8], binders: &[u32], depth: usize, r: Record, x: u16, y: u16
 
 // The number of the wanted type, and how many entries the table has that holds it.
 fn hold(table: &mut [u8], types: u16, w: Candidate) -> Held
-    requires { ⌜ CanHave (entriesIn (now table)) types ⌝ }
+    requires { ⌜ CanHold (entriesIn (now table)) types w ⌝ }
     ensures { λ r. ⌜ HasCandidate (entriesIn (now (table .entry))) (entriesIn (now (table .exit))) types w r ⌝ }
 {
     match w {
@@ -155,7 +154,7 @@ pub fn assign(
     y: u16,
     z: u16,
 ) -> Assigned
-    requires { ⌜ CanAssign (entriesIn (now table)) types (now binders) depth ⌝ }
+    requires { ⌜ CanAssign (entriesIn (now table)) types (now binders) depth r x y ⌝ }
     ensures { λ a. ⌜ Assigns (entriesIn (now (table .entry))) (entriesIn (now (table .exit))) types (stack (now (binders .entry)) depth) level n r x y z a ⌝ }
 {
     let w = wanted(&table[..6 * (types as usize)], binders, depth, r, x, y);

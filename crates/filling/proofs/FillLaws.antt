@@ -11,7 +11,9 @@ use lib.ListN.{length, take}
 use lib.Seq.{length-take-le}
 use Rattle.rules.specs.Kinds.{kindOf}
 use Rattle.rules.specs.Terms.{Term, typeOf}
+use Rattle.rules.specs.Binders.{overFirst, overSecond}
 use Rattle.rules.specs.Types.{Table}
+use Rattle.rules.specs.Typing.{under}
 use Rattle.rules.specs.Format.{Record}
 use Rattle.rules.specs.Links.{firstOf, nextOf, node}
 use Rattle.rules.specs.Refusals.{Refusal, badChildren, tableFull}
@@ -19,9 +21,10 @@ use Rattle.rules.specs.Conditions.{Holds}
 use Rattle.rules.specs.Check.{children, childrenRule}
 use Rattle.rules.proofs.Tests.{holds-lowest, both-pass, holds-unless}
 use Rattle.rules.proofs.Tree.{next-from, fields-node}
-use Rattle.inference.specs.Inference.{retyped, tableFor, numberFor, filled, unlessRefused, noTerm, assigned, inferredFrom}
+use Rattle.inference.specs.Inference.{retyped, wanted, tableFor, numberFor, filled, unlessRefused, noTerm, assigned, inferredFrom}
 use Rattle.inference.proofs.Generations.{inferred-nothing}
 use Rattle.records.specs.declared.Record.{Record as Read}
+use Rattle.records.specs.Places.{IsRecord}
 use Rattle.refusals.specs.Tells.{Tells}
 use Rattle.refusals.proofs.Laws.{tells-none, no-number}
 use Rattle.judging.specs.Stack.{stack}
@@ -30,17 +33,27 @@ use Rattle.typing.specs.declared.Child.{Child}
 use Rattle.typing.specs.Reading.{IsThird, secondOf, thirdOf}
 use Rattle.typing.specs.Entering.{Enters, EntersFirst, EntersSecond, kindNo, fieldsNo}
 use Rattle.typing.proofs.TreeCounts.{none-after-third}
-use Rattle.assigning.specs.Assigning.{wantedFor, faultFor}
+use Rattle.assigning.specs.Assigning.{wantedFor, MayFollow, CanAssign, faultFor}
 use Rattle.filling.specs.declared.Progress.{Progress}
-use Rattle.filling.specs.Filling.{faultOf, verdictOf, firsts, typesAt, sizeAt, CanFill, Filled, Fills, CanFillChild, FillsChild, Settles}
+use Rattle.filling.specs.Filling.{faultOf, verdictOf, firsts, typesAt, sizeAt, CanInfer, CanFill, Filled, Fills, CanFillChild, FillsChild, CanSettle, Settles}
 use Rattle.filling.proofs.FaultLaws.{clear-before, fault-unless, unless-none, assigned-by}
 use Rattle.filling.proofs.TypeLaws.{types-there, types-node, firsts-none, firsts-own}
-use Rattle.filling.proofs.Coming.{size-there, Come, one-left, entered, come-child, come-further}
+use Rattle.filling.proofs.Inferring.{infers-first, infers-second}
+use Rattle.filling.proofs.Coming.{size-there, Come, one-left, entered, come-child, come-type, come-before, come-further}
 use Rattle.filling.proofs.Sequence.{Three, follows, told-three, all-three}
 
 -- A number that is not told apart from 0.
 no-fault : (x : ℕ) → not (eqb x 0) ≡ false → x ≡ 0
 no-fault x h = eqb→eq x 0 (subst T (sym (not-false (eqb x 0) h)) tt)
+
+-- Record n, as it is read, can be given its type.
+pub can-assign : (rs : List Record) (es : Table) (gs bs : List ℕ) (d n left : ℕ) (done : Progress) (x y : ℕ) (own : Read) → CanSettle rs es gs bs d n left done x y
+    → IsRecord rs n own → CanAssign es (done .types) bs d own x y
+can-assign rs es gs bs d n left done x y own can read = record {
+  table = can .table;
+  binders = can .binders;
+  follows = subst (λ q. MayFollow (done .types) (wanted (take (done .types) es) (stack bs d) (kindOf (q .kind)) (q .fields) x y)) (sym (read .is)) (can .follows);
+}
 
 -- A child that is none, and one after a fault.
 module _ (rs : List Record) (es : Table) (gs bs : List ℕ) (d l n : ℕ) (before : Progress) (can : CanFillChild rs es gs bs d n before) where
@@ -83,43 +96,49 @@ module _ {rs : List Record} {es : Table} {gs bs : List ℕ} {d n types left : �
   pub first-falls : CanFill rs es gs bs d n types left → {t : ℕ} → 2 * left ≡ t → 2 * (left - 1) + 1 < t
   first-falls can e = omega (arith, one-left rs es gs bs d n types left can)
 
-  pub later-falls : {es₁ : Table} {gs₁ bs₁ : List ℕ} {child : ℕ} {r : Progress} → Come rs es gs bs d n types left es₁ gs₁ bs₁ child r → {t : ℕ} → 2 * left ≡ t → 2 * r .left + 1 < t
+  pub later-falls : {es₁ : Table} {gs₁ bs₁ : List ℕ} {child x : ℕ} {r : Progress} → Come rs es gs bs d n types left es₁ gs₁ bs₁ child x r → {t : ℕ} → 2 * left ≡ t → 2 * r .left + 1 < t
   later-falls come e = omega (arith, come .less)
 
   module _ (can : CanFill rs es gs bs d n types left) {bs₁ : List ℕ} {l : ℕ} {c : Child} (enters : EntersFirst rs bs bs₁ d l n c) (same : length bs₁ ≡ length bs) where
+    over : (A : Table) → CanInfer rs A (stack bs d) → CanInfer rs A (under l (overFirst (kindNo rs n) (fieldsNo rs n)) (stack bs d))
+    over A infers = infers-first infers n (can .here .real) (can .here .within) l
+
     pub first-asks : CanFillChild rs es gs bs₁ (c .depth) (c .n) (record { number = 0; place = 0; types = types; ty = 0; left = left - 1 })
-    first-asks = come-child (entered rs es gs bs d n types left can) (enters .enters) same
+    first-asks = come-child (entered rs es gs bs d n types left can) (enters .enters) same over
 
     pub first-come : {es₁ : Table} {gs₁ bs₂ : List ℕ} {q : Progress} → FillsChild rs es es₁ gs gs₁ bs₁ bs₂ (c .depth) (c .level) (c .n) (record { number = 0; place = 0; types = types; ty = 0; left = left - 1 }) q
-        → length gs₁ ≡ length gs → length bs₂ ≡ length bs₁ → Come rs es gs bs d n types left es₁ gs₁ bs₂ (secondOf rs n) q
-    first-come f = come-further (entered rs es gs bs d n types left can) (enters .enters) same f
+        → length gs₁ ≡ length gs → length bs₂ ≡ length bs₁ → Come rs es gs bs d n types left es₁ gs₁ bs₂ (secondOf rs n) (q .ty) q
+    first-come {q = q} f = come-further (entered rs es gs bs d n types left can) (enters .enters) same over f (q .ty) (come-type (entered rs es gs bs d n types left can) (enters .enters) same over f)
 
-  module _ {es₁ : Table} {gs₁ bs₁ : List ℕ} {r : Progress} where
-    module _ (come : Come rs es gs bs d n types left es₁ gs₁ bs₁ (secondOf rs n) r) {l : ℕ} {bs₂ : List ℕ} {c : Child} (enters : EntersSecond rs bs₁ bs₂ d l n c) (same : length bs₂ ≡ length bs₁) where
+  module _ {es₁ : Table} {gs₁ bs₁ : List ℕ} {x : ℕ} {r : Progress} where
+    module _ (come : Come rs es gs bs d n types left es₁ gs₁ bs₁ (secondOf rs n) x r) {l : ℕ} {bs₂ : List ℕ} {c : Child} (enters : EntersSecond rs bs₁ bs₂ d l n c) (same : length bs₂ ≡ length bs₁) where
+      over-second : (A : Table) → CanInfer rs A (stack bs₁ d) → CanInfer rs A (under 0 (overSecond (kindNo rs n) (fieldsNo rs n)) (stack bs₁ d))
+      over-second A infers = infers-second infers n (come .can .here .real) (come .can .here .within)
+
       pub second-asks : CanFillChild rs es₁ gs₁ bs₂ (c .depth) (c .n) r
-      second-asks = come-child come (enters .enters) same
+      second-asks = come-child come (enters .enters) same over-second
 
       pub second-come : {es₂ : Table} {gs₂ bs₃ : List ℕ} {q : Progress} → FillsChild rs es₁ es₂ gs₁ gs₂ bs₂ bs₃ (c .depth) (c .level) (c .n) r q
-          → length gs₂ ≡ length gs₁ → length bs₃ ≡ length bs₂ → Come rs es gs bs d n types left es₂ gs₂ bs₃ (thirdOf rs n) q
-      second-come f = come-further come (enters .enters) same f
+          → length gs₂ ≡ length gs₁ → length bs₃ ≡ length bs₂ → Come rs es gs bs d n types left es₂ gs₂ bs₃ (thirdOf rs n) x q
+      second-come f = come-further come (enters .enters) same over-second f x (come-before come (enters .enters) same over-second f)
 
     -- The third child stands where the record itself does.
-    module _ (come : Come rs es gs bs d n types left es₁ gs₁ bs₁ (thirdOf rs n) r) {e : ℕ} (third : IsThird rs n e) where
+    module _ (come : Come rs es gs bs d n types left es₁ gs₁ bs₁ (thirdOf rs n) x r) {e : ℕ} (third : IsThird rs n e) where
       stands : (l : ℕ) → Enters (stack bs₁ d) l (thirdOf rs n) bs₁ bs₁ d (record { n = e; level = l; depth = d })
       stands l = record { number = third .is; level = refl; over = refl; kept = refl; above = omega arith; most = omega arith }
 
       pub third-asks : CanFillChild rs es₁ gs₁ bs₁ d e r
-      third-asks = come-child come (stands 0) refl
+      third-asks = come-child come (stands 0) refl (λ A infers. infers)
 
       pub third-come : {l : ℕ} {es₂ : Table} {gs₂ bs₂ : List ℕ} {q : Progress} → FillsChild rs es₁ es₂ gs₁ gs₂ bs₁ bs₂ d l e r q
-          → length gs₂ ≡ length gs₁ → length bs₂ ≡ length bs₁ → Come rs es gs bs d n types left es₂ gs₂ bs₂ (nextOf rs (thirdOf rs n)) q
-      third-come {l} f = come-further come (stands l) refl f
+          → length gs₂ ≡ length gs₁ → length bs₂ ≡ length bs₁ → Come rs es gs bs d n types left es₂ gs₂ bs₂ (nextOf rs (thirdOf rs n)) x q
+      third-come {l} f = come-further come (stands l) refl (λ A infers. infers) f x (come-before come (stands l) refl (λ A infers. infers) f)
 
 -- The record itself, after its children.
 module _ {rs : List Record} {es es₁ es₂ es₃ : Table} {gs gs₁ gs₂ gs₃ bs bs₁ bs₂ bs₃ bs₄ bs₅ : List ℕ} {d l n types left e : ℕ} {c s : Child} {first second third : Progress}
-    (come : Come rs es gs bs d n types left es₃ gs₃ bs₅ (nextOf rs (thirdOf rs n)) third)
-    (come₂ : Come rs es gs bs d n types left es₂ gs₂ bs₄ (thirdOf rs n) second)
-    (come₁ : Come rs es gs bs d n types left es₁ gs₁ bs₂ (secondOf rs n) first)
+    (come : Come rs es gs bs d n types left es₃ gs₃ bs₅ (nextOf rs (thirdOf rs n)) (first .ty) third)
+    (come₂ : Come rs es gs bs d n types left es₂ gs₂ bs₄ (thirdOf rs n) (first .ty) second)
+    (come₁ : Come rs es gs bs d n types left es₁ gs₁ bs₂ (secondOf rs n) (first .ty) first)
     (one : EntersFirst rs bs bs₁ d l n c) (fills₁ : FillsChild rs es es₁ gs gs₁ bs₁ bs₂ (c .depth) (c .level) (c .n) (record { number = 0; place = 0; types = types; ty = 0; left = left - 1 }) first)
     (two : EntersSecond rs bs₂ bs₃ d l n s) (fills₂ : FillsChild rs es₁ es₂ gs₁ gs₂ bs₃ bs₄ (s .depth) (s .level) (s .n) first second)
     (three : IsThird rs n e) (fills₃ : FillsChild rs es₂ es₃ gs₂ gs₃ bs₄ bs₅ d l e second third) where
@@ -217,4 +236,4 @@ module _ {rs : List Record} {es es₁ es₂ es₃ : Table} {gs gs₁ gs₂ gs₃
       room = settled .assigns .held .room ∙ come .table;
     }
 
-pub ruleset filling = (child-none, child-after-fault, child-there, child-falls, child-filled)
+pub ruleset filling = (can-assign, child-none, child-after-fault, child-there, child-falls, child-filled)

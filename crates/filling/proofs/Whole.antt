@@ -26,6 +26,7 @@ module _ (rs : List Record) (count : ℕ) (es : Table) (types : ℕ) (gs : List 
   whole = whole-size rs (holds-lowest _ badChildren 1 (length rs) (h .tree .chained)) (holds-lowest _ badLink 1 (length rs) (h .tree .linked)) some
 
   pub root-asked : (bs : List ℕ) → 2 * count ≤ length bs → CanFill rs es gs bs 0 1 types count
+  unfolding stack
   root-asked bs room = record {
     here = record { linked = no-bad-link rs (h .tree .linked); real = omega arith; within = some };
     chained = h .tree .chained;
@@ -35,6 +36,7 @@ module _ (rs : List Record) (count : ℕ) (es : Table) (types : ℕ) (gs : List 
     table = h .table;
     few = h .few;
     given = omega (arith, h .given);
+    infers = h .infers;
   }
 
   -- The types before none are none, and those before the last are all.

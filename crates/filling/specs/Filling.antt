@@ -4,21 +4,27 @@ use mathlib.Core.Path.{_≡_}
 use mathlib.Core.List.{List, [], _++_}
 use mathlib.Core.Option.{Option, none, some}
 use lib.ListN.{length, set, take}
+use Rattle.rules.specs.Lists.{All}
 use Rattle.rules.specs.Terms.{Term, typeOf}
 use Rattle.rules.specs.Types.{Table}
+use Rattle.rules.specs.Conditions.{Met, Holds}
+use Rattle.rules.specs.FieldUses.{isEntry, formedBesides}
+use Rattle.rules.specs.Typing.{Env}
 use Rattle.rules.specs.Format.{Record, mostTypes, mostRecords}
 use Rattle.rules.specs.Refusals.{Refusal, badChildren, lowest}
-use Rattle.rules.specs.Check.{childrenRule}
-use Rattle.inference.specs.Inference.{typesOf, Inference, faulty, filled, inferredFrom}
+use Rattle.rules.specs.Check.{entryRule, childrenRule}
+use Rattle.inference.specs.Inference.{Begins, typesOf, wanted, Inference, faulty, filled, inferredFrom}
 use Rattle.records.specs.declared.Record.{Record as Read}
 use Rattle.records.specs.Places.{IsRecord}
 use Rattle.refusals.specs.declared.Verdict.{Verdict}
 use Rattle.refusals.specs.Tells.{Tells}
 use Rattle.judging.specs.Stack.{stack}
 use Rattle.typing.specs.Reading.{CanRead}
+use Rattle.typing.specs.Entering.{kindNo, fieldsNo}
 use Rattle.typing.specs.Walking.{treeSize, MakeTree}
+use Rattle.tables.specs.Having.{CanGrow}
 use Rattle.assigning.specs.declared.Assigned.{Assigned}
-use Rattle.assigning.specs.Assigning.{Assigns}
+use Rattle.assigning.specs.Assigning.{MayFollow, Assigns}
 use Rattle.filling.specs.declared.Progress.{Progress}
 
 -- The fault of an inference, or none.
@@ -42,8 +48,19 @@ unfoldable pub sizeAt : List Record → ℕ → ℕ
 sizeAt rs zero = 0
 sizeAt rs (suc n) = treeSize rs (suc n)
 
+-- Inference can go on with the table A under Γ: 6 passes A, which begins with the table that was given, and in that one 7 passes the records, and the
+-- binders have their types.
+pub record CanInfer (rs : List Record) (A : Table) (Γ : Env) : Type 0 where
+  pub first : Table
+  pub begins : Begins first A
+  pub some : 0 < length A
+  pub few : length A ≤ mostTypes
+  pub entries : (n : ℕ) → 1 ≤ n → n < 1 + length A → Holds (entryRule A n)
+  pub fielded : (n : ℕ) → 1 ≤ n → n < 1 + length rs → Holds (formedBesides first (kindNo rs n) (fieldsNo rs n))
+  pub bound : All (λ b. Met (isEntry first (b .type))) Γ
+
 -- The tree of record n can be walked: 9 passes the records, those left are enough for the tree and no more than a program has, the stack has room for
--- two binders of each, the table's buffer for a 257th entry, and the types for those left.
+-- two binders of each, the table's buffer for a 257th entry, and the types for those left, and inference can go on with the table under the binders.
 pub record CanFill (rs : List Record) (es : Table) (gs bs : List ℕ) (depth n types left : ℕ) : Type 0 where
   pub here : CanRead rs n
   pub chained : lowest (childrenRule rs) badChildren 1 (length rs) ≡ none
@@ -53,6 +70,7 @@ pub record CanFill (rs : List Record) (es : Table) (gs bs : List ℕ) (depth n t
   pub table : mostTypes < length es
   pub few : types ≤ mostTypes
   pub given : left ≤ length gs
+  pub infers : CanInfer rs (take types es) (stack bs depth)
 
 -- The tree of record n is filled as the inference o has it: the table is the first entries of es′, r tells how many, the root's type and how many
 -- records are left, and the types stand after those that stood before.
@@ -86,11 +104,11 @@ pub record FillsChild (rs : List Record) (es es′ : Table) (gs gs′ bs bs′ :
   pub room : length es′ ≡ length es
 
 -- Record n can be given its type.
-pub record CanSettle (rs : List Record) (es : Table) (gs bs : List ℕ) (depth n left : ℕ) (done : Progress) : Type 0 where
+pub record CanSettle (rs : List Record) (es : Table) (gs bs : List ℕ) (depth n left : ℕ) (done : Progress) (x y : ℕ) : Type 0 where
   pub here : CanRead rs n
   pub binders : depth ≤ length bs
-  pub table : mostTypes < length es
-  pub few : done .types ≤ mostTypes
+  pub table : CanGrow es (done .types)
+  pub follows : MayFollow (done .types) (wanted (take (done .types) es) (stack bs depth) (kindNo rs n) (fieldsNo rs n) x y)
   pub some : 1 ≤ left
   pub given : left ≤ length gs
 
@@ -103,12 +121,13 @@ pub record Settles (rs : List Record) (es es′ : Table) (gs gs′ bs : List ℕ
   pub given : gs′ ≡ set gs (length gs - left) (assigned .ty)
   pub told : r ≡ record { number = assigned .number; place = assigned .place; types = assigned .types; ty = assigned .ty; left = done .left }
 
--- The records of a whole program, `count` of them, make one tree; there is room for a 257th entry, and for the types.
+-- The records of a whole program, `count` of them, make one tree; 6 and 7 pass them; there is room for a 257th entry, and for the types.
 pub record CanFillAll (rs : List Record) (count : ℕ) (es : Table) (types : ℕ) (gs : List ℕ) : Type 0 where
   pub tree : MakeTree rs count
   pub table : mostTypes < length es
   pub few : types ≤ mostTypes
   pub given : length gs ≡ count
+  pub infers : CanInfer rs (take types es) []
 
 -- The root's tree is filled as the inference o has it: gs are its types.
 pub record FilledAll (es : Table) (gs : List ℕ) (o : Inference) (r : Progress) : Type 0 where

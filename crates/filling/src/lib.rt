@@ -29,7 +29,7 @@ fn settle(
     x: u16,
     y: u16,
 ) -> Progress
-    requires { ⌜ CanSettle (recordsIn (now records)) (entriesIn (now table)) (now given) (now binders) depth n left done ⌝ }
+    requires { ⌜ CanSettle (recordsIn (now records)) (entriesIn (now table)) (now given) (now binders) depth n left done x y ⌝ }
     ensures { λ r. ⌜ Settles (recordsIn (now (records .entry))) (entriesIn (now (table .entry))) (entriesIn (now (table .exit))) (now (given .entry)) (now (given .exit)) (now (binders .entry)) depth level n left done x y r ⌝ }
 {
     let r = records::record_no(records, n);
@@ -116,6 +116,7 @@ fn fill(
         left: left - 1,
     };
     let c = typing::first_child(records, binders, depth, level, n);
+    let e = typing::third_child(records, n);
     let first = fill_child(
         records,
         c.n,
@@ -128,7 +129,6 @@ fn fill(
     );
     let s = typing::second_child(records, binders, depth, level, n);
     let second = fill_child(records, s.n, s.level, binders, s.depth, table, given, first);
-    let e = typing::third_child(records, n);
     let third = fill_child(records, e, level, binders, depth, table, given, second);
     if third.number != 0 {
         return third;

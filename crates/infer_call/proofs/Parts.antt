@@ -2,7 +2,7 @@
 -- grows. `parts` for search.
 use Prim.Native.Nat.{ℕ, suc, _+_, _*_, _-_, _/_, _≤_, _<_}
 use native.Mathlib.Omega.{arith}
-use mathlib.Core.List.{List}
+use mathlib.Core.List.{List, []}
 use mathlib.Core.Path.{_≡_, ap, sym, _∙_}
 use lib.ListN.{length, take, drop, length-drop}
 use lib.Seq.{length-take-le, take-at}
@@ -13,13 +13,15 @@ use Rattle.rules.specs.Refusals.{badLink, badChildren}
 use Rattle.rules.specs.Meets.{MeetsLayout}
 use Rattle.rules.proofs.Tests.{lowest-holds}
 use Rattle.rules.proofs.Meaning.{records-counted}
+use Rattle.rules.proofs.Written.{layout-table}
+use Rattle.inference.proofs.Growing.{begins-itself}
 use Rattle.records.specs.Overwritten.{overwritten}
 use Rattle.records.specs.View.{entriesIn, recordsIn}
 use Rattle.records.proofs.Entries.{entries-length, entries-front}
 use Rattle.records.proofs.Overwriting.{overwritten-length}
 use Rattle.records.proofs.Program.{layout-types, layout-count, layout-end, layout-table-slice, layout-records-slice}
 use Rattle.typing.specs.Walking.{MakeTree}
-use Rattle.filling.specs.Filling.{CanFillAll}
+use Rattle.filling.specs.Filling.{CanInfer, CanFillAll}
 use Rattle.infer_call.specs.Answers.{CanTypeWith}
 
 module _ (p out work table given : List ℕ) (h : CanTypeWith p out work table given) where
@@ -87,7 +89,20 @@ module _ (p out work table given : List ℕ) (h : CanTypeWith p out work table g
           let fits : 6 * T ≤ length tb = omega (arith, entries-length tb, buffer-long, types-few) in
           sym (entries-front tb T fits) ∙ ap entriesIn front ∙ sym (layout-table-slice omitted firstEdition p m T eT)
 
+      infers : CanInfer (recordsIn recordPart) (take T (entriesIn tb)) []
+      infers =
+          let good = layout-table omitted firstEdition p m in
+          rw (records-are, table-front) (record {
+            first = tableOf p;
+            begins = begins-itself (tableOf p);
+            some = good .some;
+            few = good .few;
+            entries = good .entries;
+            fielded = λ n i j. m .form .fielded n i j .1 .1;
+            bound = tt;
+          })
+
       pub fill-asked : CanFillAll (recordsIn recordPart) R (entriesIn tb) T (take R given)
-      fill-asked = record { tree = whole; table = omega (arith, buffer-long); few = types-few; given = sym given-long }
+      fill-asked = record { tree = whole; table = omega (arith, buffer-long); few = types-few; given = sym given-long; infers = infers }
 
 pub ruleset parts = (read-types, read-count, part-end, types-fit, part-fits, given-long, fill-asked)

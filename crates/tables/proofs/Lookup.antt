@@ -1,5 +1,5 @@
 -- The look-up of an entry in the first entries of a buffer, and the write of one that is missing: `looking` for search.
-use Prim.Native.Nat.{ℕ, suc, _+_, _≤_, _<_}
+use Prim.Native.Nat.{ℕ, zero, suc, _+_, _≤_, _<_, max}
 use native.Mathlib.Omega.{arith}
 use native.Mathlib.Numerals.{add-one}
 use mathlib.Core.Bool.{Bool, true, false}
@@ -9,25 +9,40 @@ use lib.ListN.{length, getD, take, drop, length-set}
 use lib.Seq.{length-take-le, drop-cons, drop-length, getD-take, take-suc-set}
 use Rattle.rules.specs.Lists.{pick}
 use Rattle.rules.specs.Types.{Entry, Table, noEntry}
-use Rattle.rules.specs.Conditions.{sameEntry}
+use Rattle.rules.specs.Conditions.{same, sameEntry}
+use Rattle.rules.proofs.General.{is-false}
+use Rattle.rules.proofs.Tests.{meets}
 use Rattle.inference.specs.Inference.{having, before}
 use Rattle.records.specs.View.{entriesIn, EntryPut}
-use Rattle.tables.specs.Having.{CanHave, Has}
+use Rattle.tables.specs.Having.{CanGrow, CanHave, CanCount, Has}
 
 -- From entry i on.
 before-from : (A : Table) (x : Entry) (i : ℕ) → i < length A → before (drop i A) x ≡ pick (sameEntry (getD A i noEntry) x) 0 (suc (before (drop (suc i) A) x))
 unfolding before
 before-from A x i h = rw (drop-cons A i noEntry h)
 
+-- After i entries of which none is x.
+before-past : (A : Table) (x : Entry) (i : ℕ) → i ≤ length A → ((n : ℕ) → n < i → getD A n noEntry ≡ x → ⊥) → before A x ≡ i + before (drop i A) x
+before-past A x zero h past = omega arith
+before-past A x (suc i) h past =
+    let y = getD A i noEntry in
+    let unlike : sameEntry y x ≡ false = is-false (sameEntry y x) (λ t. past i (omega arith) (meets (same y x) t)) in
+    let next : before (drop i A) x ≡ suc (before (drop (suc i) A) x) = before-from A x i (omega arith) ∙ rw unlike in
+    omega (arith, next, before-past A x i (omega arith) (λ n l. past n (omega arith)))
+
 -- None of the first i of `types` entries is x.
 pub record Passed (es : Table) (types : ℕ) (x : Entry) (i : ℕ) : Type 0 where
   pub most : i ≤ types
   pub left : before (take types es) x ≡ i + before (drop i (take types es)) x
 
-module _ (es : Table) (types : ℕ) (x : Entry) (room : types ≤ length es) where
-  pub lookup-starts : Passed es types x 0
-  lookup-starts = record { most = omega arith; left = omega arith }
+pub lookup-starts : (es : Table) (from types : ℕ) (x : Entry) → CanCount es from types x → Passed es types x from
+lookup-starts es from types x can = record {
+  most = can .most;
+  left = before-past (take types es) x from (omega (arith, length-take-le types es (can .room), can .most))
+      (λ n h e. can .past n h (sym (getD-take types es n noEntry (omega (arith, can .most))) ∙ e));
+}
 
+module _ (es : Table) (types : ℕ) (x : Entry) (room : types ≤ length es) where
   module _ (i : ℕ) (p : Passed es types x i) where
     pub lookup-ends : types ≤ i → i ≡ before (take types es) x
     unfolding before
@@ -48,6 +63,17 @@ module _ (es : Table) (types : ℕ) (x : Entry) (room : types ≤ length es) whe
         most = omega arith;
         left = let s : before (drop i (take types es)) x ≡ suc (before (drop (suc i) (take types es)) x) = here ∙ rw e in rw (add-one i) (omega (arith, p .left, s));
       }
+
+-- No entry that stands before its parts.
+pub can-count : (es : Table) (from types : ℕ) (x : Entry) → CanHave es types x → from ≡ max (x .a) (x .b) → CanCount es from types x
+can-count es from types x can e =
+    let p = can .parts in
+    let most : from ≤ types = omega (arith, p .a, p .b) in
+    record {
+      room = omega (arith, can .table .room);
+      most = most;
+      past = λ n h d. let q = can .table .earlier n (omega arith) in omega (arith, q .a, q .b, ap (λ y. y .a) d, ap (λ y. y .b) d);
+    }
 
 -- An entry that stands in the table, and one that is missing.
 found-kept : (A : Table) (x : Entry) → before A x < length A → having A x ≡ A
@@ -77,7 +103,7 @@ before-most (y ∷ ys) x = go (sameEntry y x) (before-most ys x)
     go true h = omega arith
     go false h = omega arith
 
-module _ (s : List ℕ) (types : ℕ) (x : Entry) (can : CanHave (entriesIn s) types) (found : ℕ) (told : found ≡ before (take types (entriesIn s)) x) where
+module _ (s : List ℕ) (types : ℕ) (x : Entry) (can : CanGrow (entriesIn s) types) (found : ℕ) (told : found ≡ before (take types (entriesIn s)) x) where
   long : length (take types (entriesIn s)) ≡ types
   long = length-take-le types (entriesIn s) (omega (arith, can .room))
 
@@ -97,4 +123,4 @@ module _ (s : List ℕ) (types : ℕ) (x : Entry) (can : CanHave (entriesIn s) t
     room = ap length (put .things) ∙ length-set (entriesIn s) types x;
   }
 
-pub ruleset looking = (lookup-starts, lookup-ends, lookup-finds, lookup-goes-on, has-found, has-appended)
+pub ruleset looking = (can-count, lookup-starts, lookup-ends, lookup-finds, lookup-goes-on, has-found, has-appended)

@@ -1,11 +1,11 @@
 // A type table that grows: its first `types` entries of a buffer that has room for more. "A type missing from the table is appended."
-ghost use Prim.Native.Nat.{_≤_};
+ghost use Prim.Native.Nat.{max};
 ghost use mathlib.Core.Path.{_≡_};
-ghost use lib.ListN.{length, take};
+ghost use lib.ListN.{take};
 ghost use Rattle.inference.specs.Inference.{before};
 ghost use Rattle.records.specs.View.{entriesIn};
 ghost use Rattle.records.specs.Meant.{entryMeant};
-ghost use Rattle.tables.specs.Having.{CanHave, Has};
+ghost use Rattle.tables.specs.Having.{CanCount, CanHave, Has};
 use records::Entry;
 
 // The number of an entry, and how many entries the table has that holds it.
@@ -14,12 +14,19 @@ pub struct Held {
     pub types: u16,
 }
 
-// How many of the first `types` entries stand before the one that is `e`: all of them where none is.
-fn count_before(table: &[u8], types: u16, e: Entry) -> u16
-    requires { ⌜ types ≤ length (entriesIn (now table)) ⌝ }
+// The larger of two numbers.
+fn larger(x: u16, y: u16) -> u16
+    ensures { λ r. ⌜ r ≡ max x y ⌝ }
+{
+    if x < y { y } else { x }
+}
+
+// How many of the first `types` entries stand before the one that is `e`: all of them where none is. None of the first `from` is, so that they are not read.
+fn count_before(table: &[u8], from: u16, types: u16, e: Entry) -> u16
+    requires { ⌜ CanCount (entriesIn (now table)) from types (entryMeant e) ⌝ }
     ensures { λ r. ⌜ r ≡ before (take types (entriesIn (now (table .entry)))) (entryMeant e) ⌝ }
 {
-    let mut i: u16 = 0;
+    let mut i = from;
     while i < types {
         if fields::same_entry(records::get_entry(table, i as usize), e) {
             return i;
@@ -29,12 +36,13 @@ fn count_before(table: &[u8], types: u16, e: Entry) -> u16
     i
 }
 
-// The number of the entry `e`, which is appended to the first `types` where none of them is like it.
+// The number of the entry `e`, which is appended to the first `types` where none of them is like it. An entry stands after its parts, so that it is
+// looked for from there on.
 pub fn have(table: &mut [u8], types: u16, e: Entry) -> Held
-    requires { ⌜ CanHave (entriesIn (now table)) types ⌝ }
+    requires { ⌜ CanHave (entriesIn (now table)) types (entryMeant e) ⌝ }
     ensures { λ r. ⌜ Has (entriesIn (now (table .entry))) (entriesIn (now (table .exit))) types (entryMeant e) r ⌝ }
 {
-    let found = count_before(table, types, e);
+    let found = count_before(table, larger(e.a, e.b), types, e);
     if found < types {
         return Held {
             number: found + 1,

@@ -48,7 +48,7 @@ abbrev fill-child-below : ℕ → In 4 fill-child-kinds.ps
 fill-child-below t = and 4 fill-child-kinds.ps (falls 4 fill-child-kinds.ps _<_ μ-fill-child t) fill-child.Pre
 
 abbrev fill-claims : ℕ → fill-lts.Claims
-fill-claims t = (first-child-reads.Asked, first-child-reads.Learnt, fill-child-below t, fill-child.Post, second-child-reads.Asked, second-child-reads.Learnt, third-child-reads.Asked, third-child-reads.Learnt, settle-reads.Asked, settle-reads.Learnt)
+fill-claims t = (first-child-reads.Asked, first-child-reads.Learnt, third-child-reads.Asked, third-child-reads.Learnt, fill-child-below t, fill-child.Post, second-child-reads.Asked, second-child-reads.Learnt, settle-reads.Asked, settle-reads.Learnt)
 
 abbrev fill-child-claims : ℕ → fill-child-lts.Claims
 fill-child-claims t = (fill-below t, fill.Post)
@@ -68,20 +68,20 @@ module _ (t : ℕ) where
   first-of c = c .before .before .before .before .before .before .before .before .before .before .before .before .before .before
 
   abbrev second-of : Third → Second
-  second-of c = c .before .before .before .before .before .before .before .before .before .before .before
+  second-of c = c .before .before .before .before .before .before .before .before .before .before
 
   -- How far the walk has come there.
   abbrev ComeTo : First → Table → List ℕ → List ℕ → (List Record → ℕ → ℕ) → Progress → Type 0
   ComeTo c es gs bs child r =
-      let a = c .before .before .before .before .before .before .before .before .before .before .before .before .args in
+      let a = c .before .before .before .before .before .before .before .before .before .before .before .before .before .args in
       let rs = recordsIn (a .records .now) in
-      Come rs (entriesIn (a .table .now)) (a .given .now) (a .binders .now) (a .depth) (a .n) (a .types) (a .left) es gs bs (child rs (a .n)) r
+      Come rs (entriesIn (a .table .now)) (a .given .now) (a .binders .now) (a .depth) (a .n) (a .types) (a .left) es gs bs (child rs (a .n)) (c .fill-child .result .ty) r
 
   come-first : (c : First) → let w = c .fill-child .last .1 .1 .1 in ComeTo c (entriesIn (w .1 .1 .0)) (w .1 .1 .1 .0) (w .0) secondOf (c .fill-child .result)
   come-first c =
-      let entering = c .before .before .before .before .before .before .first-child in
+      let entering = c .before .before .before .before .before .before .before .first-child in
       let kept = c .fill-child .kept .1 .1 .1 in
-      first-come (c .before .before .before .before .before .before .before .before .before .before .before .before .pre .1) (entering .ensures) (entering .kept .1 .0) (c .fill-child .ensures) (kept .1 .1 .1 .0) (kept .0)
+      first-come (c .before .before .before .before .before .before .before .before .before .before .before .before .before .pre .1) (entering .ensures) (entering .kept .1 .0) (c .fill-child .ensures) (kept .1 .1 .1 .0) (kept .0)
 
   come-second : (c : Second) → let w = c .fill-child2 .last .1 .1 .1 in ComeTo (first-of c) (entriesIn (w .1 .1 .0)) (w .1 .1 .1 .0) (w .0) thirdOf (c .fill-child2 .result)
   come-second c =
@@ -93,22 +93,23 @@ module _ (t : ℕ) where
       ComeTo (first-of (second-of c)) (entriesIn (w .1 .1 .0)) (w .1 .1 .1 .0) (w .0) (λ rs n. nextOf rs (thirdOf rs n)) (c .fill-child3 .result)
   come-third c =
       let kept = c .fill-child3 .kept .1 .1 .1 in
-      third-come (come-second (second-of c)) (c .before .before .before .before .third-child .ensures) (c .fill-child3 .ensures) (kept .1 .1 .1 .0) (kept .0)
+      third-come (come-second (second-of c)) (first-of (second-of c) .before .before .before .before .third-child .ensures) (c .fill-child3 .ensures) (kept .1 .1 .1 .0) (kept .0)
 
 pub +fill+fill-child-spec : {M : Type 1} → statement M
 +fill+fill-child-spec = close μ-fill μ-fill-child
     (λ t. fill-lts.spec (fill-claims t) (fill-at t) fill.Post
     (λ c. search (one-left, needs))  -- sub-t17
     (λ c κs. come-enter (entered _ _ _ _ _ _ _ _ (c .before .before .before .before .before .pre .1)))  -- first-child-requires
-    (λ c κs. (first-falls (c .before .before .before .before .before .before .before .before .before .before .before .pre .1) (c .before .before .before .before .before .before .before .before .before .before .before .pre .0), first-asks (c .before .before .before .before .before .before .before .before .before .before .before .pre .1) (c .before .before .before .before .before .first-child .ensures) (search needs)))  -- fill-child-requires
+    (λ c κs. c .before .before .before .before .before .before .before .before .pre .1 .here)  -- third-child-requires
+    (λ c κs. (first-falls (c .before .before .before .before .before .before .before .before .before .before .before .before .pre .1) (c .before .before .before .before .before .before .before .before .before .before .before .before .pre .0), first-asks (c .before .before .before .before .before .before .before .before .before .before .before .before .pre .1) (c .before .before .before .before .before .before .first-child .ensures) (search needs)))  -- fill-child-requires
     (λ c κs. come-enter (come-first t (c .before .before .before .before .before .before .before)))  -- second-child-requires
     (λ c κs.
     let f = c .before .before .before .before .before .before .before .before .before .before .before .before .before in
-    (later-falls (come-first t f) (f .before .before .before .before .before .before .before .before .before .before .before .before .pre .0), second-asks (come-first t f) (c .before .before .before .before .before .second-child .ensures) (search needs)))  -- fill-child-requires-2
-    (λ c κs. come-first t (first-of t (c .before .before .before .before .before .before)) .can .here)  -- third-child-requires
+    (later-falls (come-first t f) (f .before .before .before .before .before .before .before .before .before .before .before .before .before .pre .0), second-asks (come-first t f) (c .before .before .before .before .before .second-child .ensures) (search needs)))  -- fill-child-requires-2
     (λ c κs.
-    let s = c .before .before .before .before .before .before .before .before .before .before in
-    (later-falls (come-second t s) (first-of t s .before .before .before .before .before .before .before .before .before .before .before .before .pre .0), third-asks (come-second t s) (c .before .before .before .third-child .ensures)))  -- fill-child-requires-3
+    let s = c .before .before .before .before .before .before .before .before .before in
+    let f = first-of t s in
+    (later-falls (come-second t s) (f .before .before .before .before .before .before .before .before .before .before .before .before .before .pre .0), third-asks (come-second t s) (f .before .before .before .before .third-child .ensures)))  -- fill-child-requires-3
     (λ c. come-third t (c .before .before .before .before .before .before .before .before) .binders)  -- same-length
     (λ c.
     let d = c .before .before .before .before .before .before .before .before in
@@ -119,8 +120,8 @@ pub +fill+fill-child-spec : {M : Type 1} → statement M
     let d = c .before .before .before .before .before .before .before .before in
     let s = second-of t d in
     let f = first-of t s in
-    fills-stopped (come-third t d) (come-second t s) (come-first t f) (f .before .before .before .before .before .before .first-child .ensures) (f .fill-child .ensures) (s .before .before .before .before .before .before .second-child .ensures) (s .fill-child2 .ensures) (d .before .before .before .before .third-child .ensures) (d .fill-child3 .ensures) (c .if1 .taken))  -- returns
-    (λ c κs. come-settle (come-third t (c .before .before .before .before .before .before .before .before .before .before .before)) (search needs))  -- settle-requires
+    fills-stopped (come-third t d) (come-second t s) (come-first t f) (f .before .before .before .before .before .before .before .first-child .ensures) (f .fill-child .ensures) (s .before .before .before .before .before .before .second-child .ensures) (s .fill-child2 .ensures) (f .before .before .before .before .third-child .ensures) (d .fill-child3 .ensures) (c .if1 .taken))  -- returns
+    (λ c κs. come-settle (come-third t (c .before .before .before .before .before .before .before .before .before .before .before)) _ (search needs))  -- settle-requires
     (λ c. come-third t (c .before .before .before .before .before .before .before .before .before .before .before .before .before .before .before .before) .binders)  -- same-length-4
     (λ c.
     let d = c .before .before .before .before .before .before .before .before .before .before .before .before .before .before .before .before in
@@ -131,7 +132,7 @@ pub +fill+fill-child-spec : {M : Type 1} → statement M
     let d = c .before .before .before .before .before .before .before .before .before .before .before .before .before .before .before .before in
     let s = second-of t d in
     let f = first-of t s in
-    fills-settled (come-third t d) (come-second t s) (come-first t f) (f .before .before .before .before .before .before .first-child .ensures) (f .fill-child .ensures) (s .before .before .before .before .before .before .second-child .ensures) (s .fill-child2 .ensures) (d .before .before .before .before .third-child .ensures) (d .fill-child3 .ensures) (c .before .before .before .before .before .before .before .before .if1 .left) (c .before .before .before .before .settle .ensures))  -- returns-2
+    fills-settled (come-third t d) (come-second t s) (come-first t f) (f .before .before .before .before .before .before .before .first-child .ensures) (f .fill-child .ensures) (s .before .before .before .before .before .before .second-child .ensures) (s .fill-child2 .ensures) (f .before .before .before .before .third-child .ensures) (d .fill-child3 .ensures) (c .before .before .before .before .before .before .before .before .if1 .left) (c .before .before .before .before .settle .ensures))  -- returns-2
     )
     (λ t. fill-child-lts.spec (fill-child-claims t) (fill-child-at t) fill-child.Post
     (λ c. ⊎-elim (λ w. child-none _ _ _ _ _ _ _ _ (c .before .before .before .before .before .pre .1) (w .taken)) (λ w. child-after-fault _ _ _ _ _ _ _ _ (c .before .before .before .before .before .pre .1) (w .2 .taken)) (c .if1 .came))  -- returns

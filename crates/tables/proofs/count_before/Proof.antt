@@ -8,10 +8,10 @@ use Rattle.tables.proofs.count_before.Statement.{statement}
 use Rattle.tables.proofs.count_before.Tie as tie
 
 abbrev Inv-loop : tie.InvT-loop
-Inv-loop table types e i₀ i = Passed (entriesIn table) types (entryMeant e) i
+Inv-loop table from types e i₀ i = Passed (entriesIn table) types (entryMeant e) i
 
 abbrev μ-loop : tie.MeasureT-loop
-μ-loop table types e i₀ i = types - i
+μ-loop table from types e i₀ i = types - i
 
 pub count-before-spec : {M : Type 1} → statement M
 count-before-spec =

@@ -6,6 +6,7 @@ use Rattle.tables.proofs.have.Tie as tie
 pub have-spec : {M : Type 1} → statement M
 have-spec =
     tie.close (tie.spec
+    (λ c κs. search (looking, needs))  -- larger-requires
     (λ c κs. search (looking, needs))  -- count-before-requires
     (λ c. search (looking, needs))  -- add-t8
     (λ c. search (looking, needs))  -- same-length
