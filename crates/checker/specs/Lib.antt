@@ -1,2 +1,3 @@
 -- What the contracts of the crate ask.
 pub mod Limits
+pub mod Refused

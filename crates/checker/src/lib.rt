@@ -10,6 +10,7 @@ ghost use Rattle.rules.specs.Check.{countsRule, omittedRule, formRefusal, sizeR
 ghost use Rattle.records.specs.View.{entriesIn, recordsIn};
 ghost use Rattle.refusals.specs.Tells.{Tells};
 ghost use Rattle.checker.specs.Limits.{InLimits};
+ghost use Rattle.checker.specs.Refused.{SizePasses, refusalWith};
 use kinds::Edition;
 use kinds::both;
 use kinds::in_range;
@@ -87,8 +88,33 @@ fn size_refusal(program: &[u8]) -> Verdict
     refusals::no_refusal()
 }
 
-// The refusal of a program of the edition for its layout, before its types are looked at: 3, 4 and 5, then those of its table and records. Its types are
-// omitted.
+// The refusal of a program of the edition whose length and counts are good: those of its table and records, and then, where its types are given, those
+// of its types.
+fn parts_refusal(program: &[u8], edition: Edition, given: bool) -> Verdict
+    requires { ⌜ SizePasses (now program) ⌝ }
+    ensures { λ r. ⌜ Tells r (refusalWith (typeFieldsMeant given) (editionMeant edition) (now (program .entry))) ⌝ }
+{
+    let types = records::get16(program, 0);
+    let count = records::get16(program, 2);
+    let end = 4 + 6 * (types as usize);
+    let form = form_refusal(
+        &program[4..end],
+        types,
+        &program[end..],
+        count,
+        edition,
+        given,
+    );
+    if form.number != 0 {
+        return form;
+    }
+    if given {
+        return typing::types_refusal(&program[4..end], &program[end..], count);
+    }
+    form
+}
+
+// The refusal of a program of the edition for its layout, before its types are looked at, which are omitted.
 pub fn layout_refusal(program: &[u8], edition: Edition) -> Verdict
     ensures { λ r. ⌜ Tells r (layoutRefusal omitted (editionMeant edition) (now (program .entry))) ⌝ }
 {
@@ -96,17 +122,7 @@ pub fn layout_refusal(program: &[u8], edition: Edition) -> Verdict
     if size.number != 0 {
         return size;
     }
-    let types = records::get16(program, 0);
-    let count = records::get16(program, 2);
-    let end = 4 + 6 * (types as usize);
-    form_refusal(
-        &program[4..end],
-        types,
-        &program[end..],
-        count,
-        edition,
-        false,
-    )
+    parts_refusal(program, edition, false)
 }
 
 // The refusal of a program of the edition, or none where it is passed.
@@ -117,19 +133,5 @@ pub fn program_refusal(program: &[u8], edition: Edition) -> Verdict
     if size.number != 0 {
         return size;
     }
-    let types = records::get16(program, 0);
-    let count = records::get16(program, 2);
-    let end = 4 + 6 * (types as usize);
-    let form = form_refusal(
-        &program[4..end],
-        types,
-        &program[end..],
-        count,
-        edition,
-        true,
-    );
-    if form.number != 0 {
-        return form;
-    }
-    typing::types_refusal(&program[4..end], &program[end..], count)
+    parts_refusal(program, edition, true)
 }

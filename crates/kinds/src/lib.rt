@@ -3,6 +3,7 @@
 mod bounds; // how many types and records a program may have
 mod conditions; // the tests of conditions
 mod editions; // what a program may use
+mod numbers; // the larger of two
 
 pub use bounds::MOST_RECORDS;
 pub use bounds::MOST_TYPES;
@@ -11,6 +12,7 @@ pub use conditions::either;
 pub use conditions::in_range;
 pub use editions::Edition;
 pub use editions::first_edition;
+pub use numbers::larger;
 ghost use mathlib.Core.Path.{_≡_};
 ghost use Rattle.rules.specs.Kinds.{childCount, kindOf};
 ghost use Rattle.rules.specs.Binders.{bindersFirst, bindersSecond};

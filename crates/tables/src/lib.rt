@@ -1,5 +1,4 @@
 // A type table that grows: its first `types` entries of a buffer that has room for more. "A type missing from the table is appended."
-ghost use Prim.Native.Nat.{max};
 ghost use mathlib.Core.Path.{_≡_};
 ghost use lib.ListN.{take};
 ghost use Rattle.inference.specs.Inference.{before};
@@ -12,13 +11,6 @@ use records::Entry;
 pub struct Held {
     pub number: u16,
     pub types: u16,
-}
-
-// The larger of two numbers.
-fn larger(x: u16, y: u16) -> u16
-    ensures { λ r. ⌜ r ≡ max x y ⌝ }
-{
-    if x < y { y } else { x }
 }
 
 // How many of the first `types` entries stand before the one that is `e`: all of them where none is. None of the first `from` is, so that they are not read.
@@ -42,7 +34,7 @@ pub fn have(table: &mut [u8], types: u16, e: Entry) -> Held
     requires { ⌜ CanHave (entriesIn (now table)) types (entryMeant e) ⌝ }
     ensures { λ r. ⌜ Has (entriesIn (now (table .entry))) (entriesIn (now (table .exit))) types (entryMeant e) r ⌝ }
 {
-    let found = count_before(table, larger(e.a, e.b), types, e);
+    let found = count_before(table, kinds::larger(e.a, e.b), types, e);
     if found < types {
         return Held {
             number: found + 1,

@@ -1,7 +1,7 @@
 // The measures of trees: read at their roots, and written there from those of the root's children.
 use records::Record;
 ghost use mathlib.Core.Path.{_≡_};
-ghost use Prim.Native.Nat.{_+_, _-_, _*_, _<_, max};
+ghost use Prim.Native.Nat.{_+_, _-_, _*_, _<_};
 ghost use lib.ListN.{length};
 ghost use Rattle.rules.specs.Lists.{pick};
 ghost use Rattle.rules.specs.Kinds.{kindOf};
@@ -52,13 +52,6 @@ pub fn is_plain_at(w: &[u8], i: usize) -> bool
     r.next % 2 == 1
 }
 
-// The larger of two numbers.
-fn larger(x: u16, y: u16) -> u16
-    ensures { λ r. ⌜ r ≡ max x y ⌝ }
-{
-    if x < y { y } else { x }
-}
-
 // x without m, or 0 where x is less.
 pub fn without(x: u16, m: u16) -> u16
     ensures { λ r. ⌜ r ≡ x - m ⌝ }
@@ -95,7 +88,7 @@ fn with_child(w: &[u8], m: Measure, binders: u16) -> Measure
     let plain = is_plain_at(w, i);
     Measure {
         end: skip(w, i),
-        bound: larger(m.bound, without(bound, binders)),
+        bound: kinds::larger(m.bound, without(bound, binders)),
         plain: kinds::both(m.plain, plain),
     }
 }
