@@ -1,3 +1,4 @@
+-- `assign` meets its contract: what is wanted is held, and the record is judged with it.
 use Rattle.assigning.proofs.Faults.{assigning}
 use borrow.Author.Needs.{needs}
 use Rattle.assigning.proofs.assign.Statement.{statement}

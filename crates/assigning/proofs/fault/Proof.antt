@@ -1,3 +1,4 @@
+-- `fault` meets its contract: 10 to 12, then 14.
 use Rattle.assigning.proofs.Faults.{assigning}
 use borrow.Author.Needs.{needs}
 use Rattle.assigning.proofs.fault.Statement.{statement}

@@ -1,3 +1,4 @@
+-- `hold` meets its contract: a number that is known, or that of the entry that the table is made to have.
 use Rattle.assigning.proofs.Faults.{can-have, has-known, has-made, assigning}
 use borrow.Author.Needs.{needs}
 use Rattle.assigning.proofs.hold.Statement.{statement}

@@ -1,3 +1,4 @@
+-- `settle` meets its contract: the record is read, and its type is put at its place.
 use Rattle.filling.proofs.FillLaws.{filling}
 use borrow.Author.Needs.{needs}
 use Rattle.filling.proofs.settle.Statement.{statement}

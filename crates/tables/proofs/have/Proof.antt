@@ -1,3 +1,4 @@
+-- `have` meets its contract: what is found is the entry, and what is not is appended.
 use Rattle.tables.proofs.Lookup.{looking}
 use borrow.Author.Needs.{needs}
 use Rattle.tables.proofs.have.Statement.{statement}

@@ -40,7 +40,7 @@ abbrev walk-claims : ℕ → walk-lts.Claims
 walk-claims t = (own-refusal-reads.Asked, own-refusal-reads.Learnt, packed-reads.Asked, packed-reads.Learnt, first-child-reads.Asked, first-child-reads.Learnt, next-of-reads.Asked, next-of-reads.Learnt, walk-below t, walk.Post, second-child-reads.Asked, second-child-reads.Learnt, third-child-reads.Asked, third-child-reads.Learnt)
 
 -- The places where the record's own checks have passed, where it has a first child, where that child's tree has passed, where it has a second child,
--- and where that one's has passed; and from each the one before it.
+-- where that one is entered, and where its tree has passed; and from each the one before it.
 module _ (t : ℕ) where
   abbrev Own : Type 0
   Own = walk-lts.Else1 (walk-claims t) (walk-at t) walk.Post
@@ -54,6 +54,9 @@ module _ (t : ℕ) where
   abbrev HasSecond : Type 0
   HasSecond = walk-lts.Else4 (walk-claims t) (walk-at t) walk.Post
 
+  abbrev Entered : Type 0
+  Entered = walk-lts.After-third-child (walk-claims t) (walk-at t) walk.Post
+
   abbrev Second : Type 0
   Second = walk-lts.Else5 (walk-claims t) (walk-at t) walk.Post
 
@@ -66,8 +69,11 @@ module _ (t : ℕ) where
   abbrev first-of : HasSecond → First
   first-of c = c .before
 
-  abbrev second-of : Second → HasSecond
-  second-of c = c .before .before .before .before .before .before .before .before .before .before
+  abbrev entered-of : Second → Entered
+  entered-of c = c .before .before .before .before .before
+
+  abbrev second-of : Entered → HasSecond
+  second-of c = c .before .before .before .before .before
 
   -- How far the walk has come there.
   abbrev Come : Own → List ℕ → ℕ → (List Record → ℕ → ℕ) → (Table → List Record → Env → ℕ → ℕ → Option Refusal) → Type 0
@@ -84,8 +90,8 @@ first-passed t c = search (passes-first, needs)
 
 second-passed : (t : ℕ) (c : Second t) →
     let w = c .before .before .before .walk2 in
-    Come t (own-of t (child-of t (first-of t (second-of t c)))) (w .last .1 .1 .0) (w .result) thirdOf fromThird
-second-passed t c = search (passes-second, needs, first-passed t (first-of t (second-of t c)))
+    Come t (own-of t (child-of t (first-of t (second-of t (entered-of t c))))) (w .last .1 .1 .0) (w .result) thirdOf fromThird
+second-passed t c = search (passes-second, needs, first-passed t (first-of t (second-of t (entered-of t c))))
 
 pub +walk-spec : {M : Type 1} → statement M
 +walk-spec = close μ-walk
@@ -109,10 +115,10 @@ pub +walk-spec : {M : Type 1} → statement M
     (λ c κs. search (walking, needs, first-passed t (first-of t (c .before .before .before .before))))  -- third-child-requires
     (λ c. search (walking, needs))  -- cast-walk
     (λ c κs.
-    let far = first-passed t (first-of t (c .before .before .before .before .before .before)) in
+    let far = first-passed t (first-of t (second-of t (c .before))) in
     (search (passed-falls, needs, far), search (goes-second, needs, far)))  -- walk-requires-2
     (λ c. search (walking, needs))  -- same-length-5
-    (λ c. search (walking, needs, first-passed t (first-of t (c .before .before .before .before .before .before .before .before .before .before))))  -- returns-5
+    (λ c. search (walking, needs, first-passed t (first-of t (second-of t (c .before .before .before .before .before)))))  -- returns-5
     (λ c. search (walking, needs))  -- same-length-6
     (λ c. search (walking, needs, second-passed t (c .before)))  -- returns-6
     (λ c. search (walking, needs))  -- cast-walk-2
