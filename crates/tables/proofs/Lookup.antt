@@ -14,7 +14,7 @@ use Rattle.rules.proofs.General.{is-false}
 use Rattle.rules.proofs.Tests.{meets}
 use Rattle.inference.specs.Inference.{having, before}
 use Rattle.records.specs.View.{entriesIn, EntryPut}
-use Rattle.tables.specs.Having.{CanGrow, CanHave, CanCount, Has}
+use Rattle.tables.specs.Having.{CanGrow, CanHave, CanLookUp, Has}
 
 -- From entry i on.
 before-from : (A : Table) (x : Entry) (i : ℕ) → i < length A → before (drop i A) x ≡ pick (sameEntry (getD A i noEntry) x) 0 (suc (before (drop (suc i) A) x))
@@ -35,7 +35,7 @@ pub record Passed (es : Table) (types : ℕ) (x : Entry) (i : ℕ) : Type 0 wher
   pub most : i ≤ types
   pub left : before (take types es) x ≡ i + before (drop i (take types es)) x
 
-pub lookup-starts : (es : Table) (from types : ℕ) (x : Entry) → CanCount es from types x → Passed es types x from
+pub lookup-starts : (es : Table) (from types : ℕ) (x : Entry) → CanLookUp es from types x → Passed es types x from
 lookup-starts es from types x can = record {
   most = can .most;
   left = before-past (take types es) x from (omega (arith, length-take-le types es (can .room), can .most))
@@ -65,7 +65,7 @@ module _ (es : Table) (types : ℕ) (x : Entry) (room : types ≤ length es) whe
       }
 
 -- No entry that stands before its parts.
-pub can-count : (es : Table) (from types : ℕ) (x : Entry) → CanHave es types x → from ≡ max (x .a) (x .b) → CanCount es from types x
+pub can-count : (es : Table) (from types : ℕ) (x : Entry) → CanHave es types x → from ≡ max (x .a) (x .b) → CanLookUp es from types x
 can-count es from types x can e =
     let p = can .parts in
     let most : from ≤ types = omega (arith, p .a, p .b) in

@@ -24,7 +24,7 @@ pub record CanHave (es : Table) (types : ℕ) (x : Entry) : Type 0 where
   pub parts : PartsIn types x
 
 -- x is none of the first `from` of the first `types` entries.
-pub record CanCount (es : Table) (from types : ℕ) (x : Entry) : Type 0 where
+pub record CanLookUp (es : Table) (from types : ℕ) (x : Entry) : Type 0 where
   pub room : types ≤ length es
   pub most : from ≤ types
   pub past : (n : ℕ) → n < from → getD es n noEntry ≡ x → ⊥

@@ -4,7 +4,7 @@ ghost use lib.ListN.{take};
 ghost use Rattle.inference.specs.Inference.{before};
 ghost use Rattle.records.specs.View.{entriesIn};
 ghost use Rattle.records.specs.Meant.{entryMeant};
-ghost use Rattle.tables.specs.Having.{CanCount, CanHave, Has};
+ghost use Rattle.tables.specs.Having.{CanLookUp, CanHave, Has};
 use records::Entry;
 
 // The number of an entry, and how many entries the table has that holds it.
@@ -15,7 +15,7 @@ pub struct Held {
 
 // How many of the first `types` entries stand before the one that is `e`: all of them where none is. None of the first `from` is, so that they are not read.
 fn count_before(table: &[u8], from: u16, types: u16, e: Entry) -> u16
-    requires { ⌜ CanCount (entriesIn (now table)) from types (entryMeant e) ⌝ }
+    requires { ⌜ CanLookUp (entriesIn (now table)) from types (entryMeant e) ⌝ }
     ensures { λ r. ⌜ r ≡ before (take types (entriesIn (now (table .entry)))) (entryMeant e) ⌝ }
 {
     let mut i = from;

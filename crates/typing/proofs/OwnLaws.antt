@@ -16,15 +16,15 @@ use Rattle.records.specs.Places.{IsRecord, InChain, Follows}
 use Rattle.judging.specs.Tests.{Judges}
 use Rattle.typing.specs.Reading.{CanRead, IsType, secondOf, thirdOf}
 use Rattle.typing.specs.Entering.{CanEnter}
-use Rattle.typing.specs.Walking.{judgedAt, CanJudge, JudgesRead, JudgesOwn}
+use Rattle.typing.specs.Walking.{judgedAt, CanReadChildren, JudgesRead, JudgesOwn}
 use Rattle.typing.proofs.RecordLaws.{first-follow, first-link, second-link, its-third, reading}
 
 -- What is asked for the record and its children to be read.
 module _ (rs : List Record) (bs : List ℕ) (d n : ℕ) (r : Read) where
-  pub judge-asked : CanEnter rs bs d n → IsRecord rs n r → CanJudge rs bs d r
+  pub judge-asked : CanEnter rs bs d n → IsRecord rs n r → CanReadChildren rs bs d r
   judge-asked can own = record { chained = first-follow rs n r own (can .here); deep = omega (arith, can .room) }
 
-  module _ (can : CanJudge rs bs d r) where
+  module _ (can : CanReadChildren rs bs d r) where
     pub judge-deep : d ≤ length bs
     judge-deep = can .deep
 

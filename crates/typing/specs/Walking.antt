@@ -26,7 +26,7 @@ unfoldable pub judgedAt : Table → List Record → Env → ℕ → ℕ → Opti
 judgedAt types rs Γ l n = judged types Γ l n (kindNo rs n) (fieldsNo rs n) (typeNo rs (firstOf rs n)) (typeNo rs (secondOf rs n)) (typeNo rs (thirdOf rs n))
 
 -- The children of r can be read, and the binders.
-pub record CanJudge (rs : List Record) (bs : List ℕ) (depth : ℕ) (r : Read) : Type 0 where
+pub record CanReadChildren (rs : List Record) (bs : List ℕ) (depth : ℕ) (r : Read) : Type 0 where
   pub chained : InChain rs (r .first)
   pub deep : depth ≤ length bs
 

@@ -12,7 +12,7 @@ ghost use Rattle.judging.specs.Stack.{stack};
 ghost use Rattle.typing.specs.Reading.{CanRead, IsType, IsThird};
 ghost use Rattle.typing.specs.Pushing.{Pushes, PushesFirst, PushesSecond};
 ghost use Rattle.typing.specs.Entering.{CanEnter, EntersFirst, EntersSecond};
-ghost use Rattle.typing.specs.Walking.{CanJudge, JudgesRead, JudgesOwn, verdictIn, Packs, CanWalk, Walks, MakeTree};
+ghost use Rattle.typing.specs.Walking.{CanReadChildren, JudgesRead, JudgesOwn, verdictIn, Packs, CanWalk, Walks, MakeTree};
 use records::Record;
 
 // A child of a record, where its tree is walked: its number, its level, and the depth of the binders over it.
@@ -73,7 +73,7 @@ fn judge_as(
     kind: u16,
     r: Record,
 ) -> u16
-    requires { ⌜ CanJudge (recordsIn (now records)) (now binders) depth r ⌝ }
+    requires { ⌜ CanReadChildren (recordsIn (now records)) (now binders) depth r ⌝ }
     ensures { λ q. ⌜ JudgesRead (entriesIn (now (table .entry))) (recordsIn (now (records .entry))) (stack (now (binders .entry)) depth) level kind r q ⌝ }
 {
     let s = records::next_of(records, r.first);
