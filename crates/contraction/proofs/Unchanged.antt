@@ -3,12 +3,11 @@ use Prim.Native.Nat.{ℕ}
 use native.Mathlib.Omega.{arith}
 use mathlib.Core.List.{[]}
 use mathlib.Core.Path.{_≡_, _∙_}
-use borrow.Author.Tests.{lt-ltb}
 use Rattle.rules.specs.Terms.{Term}
 use Rattle.rules.specs.FreeBounds.{freeBound}
-use Rattle.rules.specs.Indices.{replaced, gives, gaveWay}
+use Rattle.rules.specs.Indices.{replaced, gaveWay}
 use Rattle.rules.proofs.Shifts.{none-removed, unshifted, replacing-shifts, none-gives-way}
-use Rattle.substitution.proofs.Sums.{low-summed}
+use Rattle.substitution.proofs.Sums.{block-gives-none}
 
 pub replaced-none : (t : Term) → replaced [] t ≡ t
 unfolding replaced
@@ -19,5 +18,4 @@ none-replaced t = none-gives-way 0 0 t (none-removed 0 t)
 
 -- No variable gives way of a tree without free indices.
 pub closed-replaced : (m : ℕ) (t : Term) → freeBound t ≡ 0 → gaveWay m 0 t ≡ 0
-unfolding gaveWay
-closed-replaced m t b = omega (arith, low-summed (gives m) 0 (λ d i l. rw (lt-ltb i d l)) 0 t (omega arith))
+closed-replaced m t b = block-gives-none m 0 t (omega arith)

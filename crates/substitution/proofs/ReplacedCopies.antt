@@ -2,7 +2,6 @@
 -- search: where a law asks that a number or a record is equal to what it stands for, search finds it without unfolding the one to see the other.
 use Prim.Native.Nat.{ℕ, suc, _+_, _-_, _/_, _≤_, _<_}
 use native.Mathlib.Omega.{arith}
-use native.Mathlib.Nat.{zero-mul}
 use native.Mathlib.Decide.{decLt, ℕ-discrete}
 use mathlib.Core.List.{List, [], _∷_}
 use mathlib.Core.Bool.{Bool, true, false, false≢true}
@@ -38,7 +37,7 @@ use Rattle.substitution.specs.Making.{MakingAt, CanCopyArgument, CopiesA
 use Rattle.substitution.specs.Replacing.{Given, Replacing, Replaces}
 use Rattle.copies.proofs.RaisedRoots.{size-raised}
 use Rattle.copies.proofs.Rows.{child}
-use Rattle.substitution.proofs.Sums.{low-summed, Adding, adding-starts, adding-next, adding-most, adding-ends}
+use Rattle.substitution.proofs.Sums.{block-gives-none, Adding, adding-starts, adding-next, adding-most, adding-ends}
 use Rattle.copies.proofs.Copies.{Stays, tree-stays, Sound, Spot, named, read-root, read-bound, read-spot, RootOf, Copying, root-of, block-can, block-does, copy-in, copy-to, copy-from-fits, copy-to-fits}
 use Rattle.copies.proofs.Copies.{copy-starts, copy-ends, copy-rooted, copy-falls, next-one, next-meant, next-copy, over, turn-tree, turn-count, turn-deep, turn-can, turn-next}
 
@@ -188,16 +187,10 @@ block-fits rs src dst d g h r e l n q = rw q (block-can (Replacing g) (g .count)
 
 pub block-replaces : (rs : List Record) (src dst d : ℕ) (g : Arguments) (r : Record) → r ≡ getD rs src noRecord → r .next / 2 ≤ d → (rs′ : List Record) (o : ℕ) → BlockMoved rs rs′ src dst (r .first) o
     → Replaces rs rs′ src dst d g (record { end = o; replaced = 0 })
-unfolding gaveWay
 block-replaces rs src dst d g r e l rs′ o w = record {
   copies = block-does (Replacing g) (g .count) _ (replacing-sound g) rs src dst d r e l rs′ o w;
-  counts = record {
-    is = λ lo hi b c t s h. sym (low-summed (gives (g .count)) 0 below d t (omega (arith, read-bound rs src r e t (h .there))) ∙ zero-mul (size t));
-  };
+  counts = record { is = λ lo hi b c t s h. sym (block-gives-none (g .count) d t (omega (arith, read-bound rs src r e t (h .there)))) };
 }
-  where
-    below : (d i : ℕ) → i < d → gives (g .count) d i ≡ 0
-    below d i l = rw (lt-ltb i d l)
 
 -- The loop over the children: of the n children of the root at src, child j is the next to be copied, from `at` to `to`, and z variables gave way
 -- in those before it.

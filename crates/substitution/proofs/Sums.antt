@@ -1,16 +1,17 @@
 -- Sums over the records of a tree: by its root and its children, and of a tree without an index that counts.
 use Prim.Native.Nat.{ℕ, suc, _+_, _*_, _≤_, _<_}
-use native.Mathlib.Nat.{add-comm, add-zero, mul-one, mul-add}
+use native.Mathlib.Nat.{add-comm, add-zero, zero-mul, mul-one, mul-add}
 use native.Mathlib.Numerals.{add-one}
 use native.Mathlib.Omega.{arith}
 use mathlib.Core.List.{List, [], _∷_}
 use mathlib.Core.Path.{_≡_, refl, sym, _∙_}
+use borrow.Author.Tests.{lt-ltb}
 use lib.ListN.{length}
 use Rattle.rules.specs.Kinds.{number, variable, Kind, unary₁, ternary₃, childCount}
 use Rattle.rules.specs.Terms.{Fields, Term, leaf, unary, binary, ternary, rootKind, size}
 use Rattle.rules.specs.Binders.{binds₁, binds₃, bindersFirst, bindersSecond}
 use Rattle.rules.specs.FreeBounds.{freeBound}
-use Rattle.rules.specs.Indices.{summed}
+use Rattle.rules.specs.Indices.{summed, gives, gaveWay}
 use Rattle.rules.proofs.FreeBounds.{variable-low, child-low, both-low, parts-low}
 use Rattle.terms.specs.Children.{kids}
 use Rattle.terms.specs.Measuring.{bindersOver}
@@ -53,6 +54,11 @@ module _ (v : ℕ → ℕ → ℕ) (o : ℕ) where
         low-summed h (length (binds₃ k f) + d) s q,
         low-summed h d e r,
       )
+
+-- A tree whose indices don't reach beyond its d binders is moved as a block: no variable gives way in it.
+pub block-gives-none : (m d : ℕ) (t : Term) → freeBound t ≤ d → gaveWay m d t ≡ 0
+unfolding gaveWay
+block-gives-none m d t b = low-summed (gives m) 0 (λ d i l. rw (lt-ltb i d l)) d t b ∙ zero-mul (size t)
 
 -- n is counted of each tree t that D says may be read, before its child j is counted.
 pub record Adding (D : Term → Type 0) (v : ℕ → ℕ → ℕ) (o d j n : ℕ) : Type 0 where
