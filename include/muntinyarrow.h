@@ -35,8 +35,8 @@ struct muntinyarrow_infer_answer {
 };
 
 /* What a run answers. Accepted: number and place are 0; ending is 1 for a value, 2 for spent fuel, 3 for a full table; steps is how many were
- * made, root_type the root's type entry, written the length of the program in the output. Refused: number is 1 to 12, place as for check (0 for
- * 1 and 2), and the other fields are 0. */
+ * made, root_type the root's type entry, written the length of the program in the output, and replaced how many variable records gave way to what
+ * replaced them, in all the steps; it can pass 32 bits. Refused: number is 1 to 12, place as for check (0 for 1 and 2), and the other fields are 0. */
 struct muntinyarrow_run_answer {
     uint32_t number;
     uint32_t place;
@@ -44,6 +44,7 @@ struct muntinyarrow_run_answer {
     uint32_t steps;
     uint32_t root_type;
     uint32_t written;
+    uint64_t replaced;
 };
 
 /* Checks a program of any bytes. */

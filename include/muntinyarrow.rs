@@ -35,13 +35,15 @@ pub enum Ending {
     Full,
 }
 
-/// What an accepted run answers: `written` is the length of the program at the start of the output.
+/// What an accepted run answers: `written` is the length of the program at the start of the output, and `replaced` how many variable records gave way
+/// to what replaced them, in all the steps.
 #[derive(Clone, Copy, Debug, PartialEq, Eq)]
 pub struct Ran {
     pub ending: Ending,
     pub steps: u32,
     pub root_type: u32,
     pub written: usize,
+    pub replaced: u64,
 }
 
 /// Checks a program of any bytes.
@@ -84,7 +86,7 @@ pub fn run(program: &[u8], fuel: u32, output: &mut [u8], work: &mut [u8]) -> Res
         2 => Ending::Spent,
         _ => Ending::Full,
     };
-    Ok(Ran { ending, steps: answer.steps, root_type: answer.root_type, written: answer.written as usize })
+    Ok(Ran { ending, steps: answer.steps, root_type: answer.root_type, written: answer.written as usize, replaced: answer.replaced })
 }
 
 #[repr(C)]
@@ -111,6 +113,7 @@ struct RunAnswer {
     steps: u32,
     root_type: u32,
     written: u32,
+    replaced: u64,
 }
 
 extern "C" {

@@ -1,4 +1,5 @@
-//! An engine for document 01, written from its text: an owned tree that is rewritten in place. Infer is from document 02's N1.
+//! An engine for document 01, written from its text: an owned tree that is rewritten in place. Infer and the total of the replaced
+//! variables are from document 02's N1 and N2.
 pub mod format;
 mod inference;
 pub mod judging;

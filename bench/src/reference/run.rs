@@ -16,19 +16,21 @@ struct Machine<'a> {
     steps: u32,
     /// The records of the whole term.
     size: usize,
+    /// The variables that gave way in the steps that were made.
+    replaced: u64,
 }
 
 /// Runs a checked program and writes the last term.
 pub fn run(program: &Program, fuel: u32, output: &mut [u8]) -> Ran {
     let mut term = Term::of_record(program, 1);
-    let mut machine = Machine { types: &program.types, fuel, steps: 0, size: program.records.len() };
+    let mut machine = Machine { types: &program.types, fuel, steps: 0, size: program.records.len(), replaced: 0 };
     let ending = match machine.evaluate(&mut term) {
         Ok(()) => Ending::Value,
         Err(Stop::Spent) => Ending::Spent,
         Err(Stop::Full) => Ending::Full,
     };
     let written = write_program(&program.types, &term, machine.size, output);
-    Ran { ending, steps: machine.steps, root_type: term.ty.into(), written }
+    Ran { ending, steps: machine.steps, root_type: term.ty.into(), written, replaced: machine.replaced }
 }
 
 impl Machine<'_> {
@@ -71,7 +73,9 @@ impl Machine<'_> {
         if self.steps == self.fuel {
             return Err(Stop::Spent);
         }
-        self.size = steps::contract(redex, self.types, self.size).ok_or(Stop::Full)?;
+        let made = steps::contract(redex, self.types, self.size).ok_or(Stop::Full)?;
+        self.size = made.size;
+        self.replaced += made.replaced;
         self.steps += 1;
         Ok(())
     }

@@ -4,13 +4,19 @@ use super::substitution::Binding;
 use super::term::{Match, Node, Pattern, Term};
 use std::mem::take;
 
-/// Rewrites a redex within a term of `size` records. Gives the size of the next term, or none, changing nothing, where that is too large.
-pub fn contract(redex: &mut Term, types: &Types, size: usize) -> Option<usize> {
+/// What a step comes to: the records of the next term, and how many variables gave way.
+pub struct Contracted {
+    pub size: usize,
+    pub replaced: u64,
+}
+
+/// Rewrites a redex within a term of `size` records. Gives none, changing nothing, where the next term is too large.
+pub fn contract(redex: &mut Term, types: &Types, size: usize) -> Option<Contracted> {
     match redex.node {
         Node::Application(_) => apply(redex, size),
         Node::Fix(_) => unroll(redex, size),
-        Node::Lift(_) => Some(lift(redex, size)),
-        Node::Splice(_) => Some(splice(redex, size)),
+        Node::Lift(_) => Some(Contracted { size: lift(redex, size), replaced: 0 }),
+        Node::Splice(_) => Some(Contracted { size: splice(redex, size), replaced: 0 }),
         Node::Match(_) => match_code(redex, types, size),
         _ => unreachable!("numbers, variables, functions and quotes are no redexes"),
     }
@@ -20,28 +26,28 @@ fn fitting(size: usize) -> Option<usize> {
     (size <= MAX_RECORDS).then_some(size)
 }
 
-fn apply(redex: &mut Term, size: usize) -> Option<usize> {
+fn apply(redex: &mut Term, size: usize) -> Option<Contracted> {
     let Node::Application(pair) = &mut redex.node else { unreachable!("an application") };
     let Node::Function { body, .. } = &mut pair.function.node else { unreachable!("the value of a function type is a function") };
     let [uses] = body.uses();
     let argument_size = pair.argument.size();
-    let next = fitting(size - 2 - argument_size + uses * (argument_size - 1))?;
+    let size = fitting(size - 2 - argument_size + uses * (argument_size - 1))?;
     let mut body = take(body.as_mut());
-    body.substitute(&mut [Binding { term: take(&mut pair.argument), uses }]);
+    let replaced = body.substitute(&mut [Binding { term: take(&mut pair.argument), uses }]);
     *redex = body;
-    Some(next)
+    Some(Contracted { size, replaced })
 }
 
-fn unroll(redex: &mut Term, size: usize) -> Option<usize> {
+fn unroll(redex: &mut Term, size: usize) -> Option<Contracted> {
     let redex_size = redex.size();
     let Node::Fix(function) = &mut redex.node else { unreachable!("a fix") };
     let Node::Function { body, .. } = &mut function.node else { unreachable!("the value of a function type is a function") };
     let [uses] = body.uses();
-    let next = fitting(size - 2 + uses * (redex_size - 1))?;
+    let size = fitting(size - 2 + uses * (redex_size - 1))?;
     let mut unrolled = if uses == 0 { take(body.as_mut()) } else { body.as_ref().clone() };
-    unrolled.substitute(&mut [Binding { term: take(redex), uses }]);
+    let replaced = unrolled.substitute(&mut [Binding { term: take(redex), uses }]);
     *redex = unrolled;
-    Some(next)
+    Some(Contracted { size, replaced })
 }
 
 fn lift(redex: &mut Term, size: usize) -> usize {
@@ -64,24 +70,24 @@ fn quoted(quote: &mut Term) -> &mut Term {
     }
 }
 
-fn match_code(redex: &mut Term, types: &Types, size: usize) -> Option<usize> {
+fn match_code(redex: &mut Term, types: &Types, size: usize) -> Option<Contracted> {
     let Node::Match(parts) = &mut redex.node else { unreachable!("a match") };
     let Match { pattern, code, success, failure } = parts.as_mut();
     let kept = size - 1 - code.size();
     let tree = quoted(code);
     if !pattern.accepts(tree, types) {
-        let next = kept - success.size();
+        let size = kept - success.size();
         *redex = take(failure);
-        return Some(next);
+        return Some(Contracted { size, replaced: 0 });
     }
     let uses: [usize; 2] = success.uses();
     let growth: usize = uses.iter().zip(pattern.bound_sizes(tree)).map(|(uses, size)| uses * (size - 1)).sum();
-    let next = fitting(kept - failure.size() + growth)?;
+    let size = fitting(kept - failure.size() + growth)?;
     let mut bindings: Vec<Binding> = pattern.bind(take(tree), types).into_iter().zip(uses).map(|(term, uses)| Binding { term, uses }).collect();
     let mut success = take(success);
-    success.substitute(&mut bindings);
+    let replaced = success.substitute(&mut bindings);
     *redex = success;
-    Some(next)
+    Some(Contracted { size, replaced })
 }
 
 impl Pattern {

@@ -36,30 +36,34 @@ impl Term {
         self.each_child(|child, binders| child.count_uses(depth + binders, counts));
     }
 
-    /// Replaces the variables of the innermost binders over this term, which are removed; index 0 comes first.
-    pub fn substitute(&mut self, bindings: &mut [Binding]) {
-        if !bindings.is_empty() {
-            self.substitute_under(0, bindings);
+    /// Replaces the variables of the innermost binders over this term, which are removed; index 0 comes first. Gives how many gave way.
+    pub fn substitute(&mut self, bindings: &mut [Binding]) -> u64 {
+        if bindings.is_empty() {
+            return 0;
         }
+        self.substitute_under(0, bindings)
     }
 
-    fn substitute_under(&mut self, depth: u16, bindings: &mut [Binding]) {
+    fn substitute_under(&mut self, depth: u16, bindings: &mut [Binding]) -> u64 {
         let removed = bindings.len() as u16;
+        let mut replaced = 0;
         match &mut self.node {
             Node::Variable(index) if *index < depth => {}
             Node::Variable(index) if *index < depth + removed => {
                 let mut replacement = bindings[usize::from(*index - depth)].take();
                 replacement.raise(depth);
                 *self = replacement;
+                replaced = 1;
             }
             Node::Variable(index) => *index -= removed,
             _ => {
                 if let Some(index) = self.matched_index() {
                     *index -= if *index < depth { 0 } else { removed };
                 }
-                self.each_child_mut(|child, binders| child.substitute_under(depth + binders, bindings));
+                self.each_child_mut(|child, binders| replaced += child.substitute_under(depth + binders, bindings));
             }
         }
+        replaced
     }
 
     /// Raises the free indices, for a term that is put under more binders.

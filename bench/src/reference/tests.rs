@@ -64,17 +64,18 @@ fn run_term(term: &Term, fuel: u32) -> (Ran, Vec<u8>) {
     (ran, output)
 }
 
-fn expect(term: &Term, fuel: u32, ending: Ending, steps: u32, last: &Term) {
+/// The steps, and the variables that give way in them.
+fn expect(term: &Term, fuel: u32, ending: Ending, (steps, replaced): (u32, u64), last: &Term) {
     let (ran, output) = run_term(term, fuel);
-    assert_eq!((ran.ending, ran.steps, ran.root_type), (ending, steps, term.ty.into()));
+    assert_eq!((ran.ending, ran.steps, ran.replaced, ran.root_type), (ending, steps, replaced, term.ty.into()));
     assert_eq!(output, program(last));
 }
 
 #[test]
 fn k1_k2_application() {
     let term = apply(NAT, identity(), number(42));
-    expect(&term, 5, Ending::Value, 1, &number(42));
-    expect(&term, 0, Ending::Spent, 0, &term);
+    expect(&term, 5, Ending::Value, (1, 1), &number(42));
+    expect(&term, 0, Ending::Spent, (0, 0), &term);
 }
 
 #[test]
@@ -84,9 +85,9 @@ fn k3_k4_match_application() {
     let rewriter = function(CODE_TO_CODE, CODE, matching(pattern, variable(CODE, 0), success, variable(CODE, 0)));
     let applied = Term::quote(CODE, apply(NAT, identity(), number(10)));
     let rewritten = Term::quote(CODE, apply(NAT, identity(), number(42)));
-    expect(&apply(CODE, rewriter.clone(), applied), 100, Ending::Value, 3, &rewritten);
+    expect(&apply(CODE, rewriter.clone(), applied), 100, Ending::Value, (3, 3), &rewritten);
     let ten = Term::quote(CODE, number(10));
-    expect(&apply(CODE, rewriter, ten.clone()), 100, Ending::Value, 2, &ten);
+    expect(&apply(CODE, rewriter, ten.clone()), 100, Ending::Value, (2, 2), &ten);
 }
 
 #[test]
@@ -94,7 +95,7 @@ fn k5_argument_of_another_type() {
     let pattern = Pattern::Application { function: CODE_FN_TO_NAT, argument: CODE_FN };
     let code = Term::quote(CODE, apply(NAT, identity(), number(10)));
     let term = matching(pattern, code, Term::quote(CODE, number(1)), Term::quote(CODE, number(2)));
-    expect(&term, 100, Ending::Value, 1, &Term::quote(CODE, number(2)));
+    expect(&term, 100, Ending::Value, (1, 0), &Term::quote(CODE, number(2)));
 }
 
 #[test]
@@ -102,7 +103,7 @@ fn k6_match_function() {
     let seven = Term::quote(CODE, number(7));
     let success = apply(CODE, variable(CODE_TO_CODE, 0), seven.clone());
     let term = matching(Pattern::Function(CODE_TO_CODE), Term::quote(CODE_FN, identity()), success, Term::quote(CODE, number(0)));
-    expect(&term, 100, Ending::Value, 3, &seven);
+    expect(&term, 100, Ending::Value, (3, 2), &seven);
 }
 
 #[test]
@@ -110,19 +111,19 @@ fn k7_match_variable() {
     let code = Term::quote(CODE, variable(NAT, 0));
     let matched = matching(Pattern::Variable(0), code, Term::quote(CODE, number(1)), Term::quote(CODE, number(2)));
     let term = Term::quote(CODE_FN, function(FN, NAT, splice(NAT, matched)));
-    expect(&term, 100, Ending::Value, 2, &Term::quote(CODE_FN, function(FN, NAT, number(1))));
+    expect(&term, 100, Ending::Value, (2, 0), &Term::quote(CODE_FN, function(FN, NAT, number(1))));
 }
 
 #[test]
 fn k8_match_lift() {
     let term = matching(Pattern::Lift(NAT), Term::quote(CODE, number(5)), variable(NAT, 0), number(0));
-    expect(&term, 100, Ending::Value, 1, &number(5));
+    expect(&term, 100, Ending::Value, (1, 1), &number(5));
 }
 
 #[test]
 fn k9_fix_of_identity() {
     let term = fix(identity());
-    expect(&term, 1_000, Ending::Spent, 1_000, &term);
+    expect(&term, 1_000, Ending::Spent, (1_000, 1_000), &term);
 }
 
 #[test]
@@ -130,9 +131,9 @@ fn k10_k11_growing_fix() {
     let term = fix(function(FN, NAT, apply(NAT, identity(), variable(NAT, 0))));
     assert_eq!(check(&program(&term)).map(|passed| passed.records), Ok(6));
     let (spent, _) = run_term(&term, 680);
-    assert_eq!((spent.ending, spent.steps), (Ending::Spent, 680));
+    assert_eq!((spent.ending, spent.steps, spent.replaced), (Ending::Spent, 680, 680));
     let (full, output) = run_term(&term, 681);
-    assert_eq!((full.ending, full.steps), (Ending::Full, 680));
+    assert_eq!((full.ending, full.steps, full.replaced), (Ending::Full, 680, 680));
     assert_eq!(check(&output).map(|passed| passed.records), Ok(2_046));
 }
 

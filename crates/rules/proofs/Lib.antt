@@ -21,8 +21,10 @@ pub mod Laid
 pub mod Bytes
 pub mod Written
 pub mod Whole
+pub mod Traces
 pub mod Sheets
 pub mod Bench
+pub mod Totals
 pub mod Small
 pub mod Readings
 pub mod Moving

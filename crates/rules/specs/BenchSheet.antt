@@ -103,44 +103,44 @@ abbrev pub grown : ℕ → Term
 grown zero = grow
 grown (suc n) = app nat identity (grown n)
 
--- A case: a first term and the fuel; the outcome, and the records of its last term.
+-- A case: a first term and the fuel; the outcome, and the records of its last term. How many variables gave way is not of document 01: N2 asks for it.
 pub record Bench : Type 0 where
   pub first : Term
   pub fuel : ℕ
   pub outcome : Outcome
   pub records : ℕ
 
-abbrev pub bench : Term → ℕ → Ending → ℕ → Term → ℕ → Bench
-bench t fuel e n u r = record { first = t; fuel = fuel; outcome = record { ending = e; steps = n; last = u }; records = r }
+abbrev pub bench : Term → ℕ → Ending → ℕ → ℕ → Term → ℕ → Bench
+bench t fuel e n m u r = record { first = t; fuel = fuel; outcome = record { ending = e; steps = n; replaced = m; last = u }; records = r }
 
 abbrev pub short : List Bench
 short =
     -- "K1. (function Nat: 0) 42, fuel 5: value, 1 step."
-    bench (app nat identity (num 42)) 5 valued 1 (num 42) 1
+    bench (app nat identity (num 42)) 5 valued 1 1 (num 42) 1
     -- "K2. Same, fuel 0: spent, 0."
-    ∷ bench (app nat identity (num 42)) 0 spent 0 (app nat identity (num 42)) 4
+    ∷ bench (app nat identity (num 42)) 0 spent 0 0 (app nat identity (num 42)) 4
     -- "K3. .. applied to quote((function: 0) 10): 3 steps, quote((function: 0) 42)."
-    ∷ bench (app natCode swap (quo natCode (app nat identity (num 10)))) 100 valued 3 (quo natCode (app nat identity (num 42))) 5
+    ∷ bench (app natCode swap (quo natCode (app nat identity (num 10)))) 100 valued 3 3 (quo natCode (app nat identity (num 42))) 5
     -- "K4. Applied to quote 10: 2 steps, quote 10."
-    ∷ bench (app natCode swap (quo natCode (num 10))) 100 valued 2 (quo natCode (num 10)) 2
+    ∷ bench (app natCode swap (quo natCode (num 10))) 100 valued 2 2 (quo natCode (num 10)) 2
     -- "K5. Quote((function Nat: 0) 10) matched as an application with argument type Fn(Nat,Nat), success quote 1, failure quote 2: 1 step, quote 2."
-    ∷ bench (asApplication natCode fnToNatCode natToNatCode (quo natCode (app nat identity (num 10))) (quo natCode (num 1)) (quo natCode (num 2))) 100 valued 1 (quo natCode (num 2)) 2
+    ∷ bench (asApplication natCode fnToNatCode natToNatCode (quo natCode (app nat identity (num 10))) (quo natCode (num 1)) (quo natCode (num 2))) 100 valued 1 0 (quo natCode (num 2)) 2
     -- "K6. Quote(function Nat: 0) matched as a function, success: the bound one applied to quote 7: 3 steps, quote 7."
-    ∷ bench (asFunction natCode codeToCode (quo natToNatCode identity) (app natCode (var codeToCode 0) (quo natCode (num 7))) (quo natCode (num 1))) 100 valued 3 (quo natCode (num 7)) 2
+    ∷ bench (asFunction natCode codeToCode (quo natToNatCode identity) (app natCode (var codeToCode 0) (quo natCode (num 7))) (quo natCode (num 1))) 100 valued 3 2 (quo natCode (num 7)) 2
     -- "K7. Quote(function: splice(quote 0 matched with variable 0, quote 1, quote 2)), where quote 0 quotes the variable: 2 steps, quote(function: 1)."
-    ∷ bench (quo natToNatCode (fun natToNat nat (spl nat (asVariable natCode 0 (quo natCode (var nat 0)) (quo natCode (num 1)) (quo natCode (num 2)))))) 100 valued 2 (quo natToNatCode (fun natToNat nat (num 1))) 3
+    ∷ bench (quo natToNatCode (fun natToNat nat (spl nat (asVariable natCode 0 (quo natCode (var nat 0)) (quo natCode (num 1)) (quo natCode (num 2)))))) 100 valued 2 0 (quo natToNatCode (fun natToNat nat (num 1))) 3
     -- "K8. Quote 5 match lift, success the bound variable: 5, 1 step."
-    ∷ bench (asLift nat (quo natCode (num 5)) (var nat 0) (num 0)) 100 valued 1 (num 5) 1
+    ∷ bench (asLift nat (quo natCode (num 5)) (var nat 0) (num 0)) 100 valued 1 1 (num 5) 1
     ∷ []
 
 abbrev pub long : List Bench
 long =
     -- "K9. fix(function Nat: 0), fuel 1,000: spent, 1,000, same term."
-    bench (fixed nat identity) 1000 spent 1000 (fixed nat identity) 3
+    bench (fixed nat identity) 1000 spent 1000 1000 (fixed nat identity) 3
     -- "K10. fix(function Nat: (function Nat: 0) 0): 6 records, 3 more each step. Fuel 680: spent, 680."
-    ∷ bench grow 680 spent 680 (grown 680) 2046
+    ∷ bench grow 680 spent 680 680 (grown 680) 2046
     -- "K11. Fuel 681: full, 680, 2,046 records."
-    ∷ bench grow 681 full 680 (grown 680) 2046
+    ∷ bench grow 681 full 680 680 (grown 680) 2046
     ∷ []
 
 abbrev pub sheet : List Bench

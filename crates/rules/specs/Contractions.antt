@@ -35,7 +35,8 @@ ruleNumber onSplice = 4
 ruleNumber (onSuccess k) = successNumber k
 ruleNumber (onFailure k) = suc (successNumber k)
 
--- t is rewritten to u, at level l, by this rule, and n variable records of t give way to what replaces them.
+-- t is rewritten to u, at level l, by this rule, and n variable records of t give way to what replaces them. "The wrapping inside a matched function doesn't
+-- count; its later replacement does": a match counts the uses in its success, and what is wrapped is a variable still.
 pub data Contraction (types : Table) : ℕ → StepRule → ℕ → Term → Term → Type 0 where
   -- "Application: the argument replaces the function's variable in its body."
   apply : (f g : Fields) (b v : Term) → T (value v) → Contraction types 0 onApplication (gaveWay 1 0 b) (binary application f (unary function g b) v) (replaced (v ∷ []) b)

@@ -24,14 +24,16 @@ pub mod Next
 -- Words of our own on indices: how far the free ones reach, and how a tree is shifted.
 pub mod FreeBounds
 pub mod Shifts
--- "Check and run", and demand 3.
+-- "Check and run", what 02 reads off a run's steps, and demand 3.
 pub mod Refusals
 pub mod Check
 pub mod Meets
+pub mod Traces
 pub mod Run
 pub mod WholeRun
 pub mod SmallInputs
--- "Bench sheet", "Slips at the binder", and the limits of the counts.
+-- "Bench sheet", "Slips at the binder", cases for the total of 02, and the limits of the counts.
 pub mod BenchSheet
 pub mod Slips
+pub mod Totals
 pub mod Limits

@@ -16,6 +16,7 @@ use Rattle.rules.specs.Format.{mostRecords, tableOf}
 use Rattle.rules.specs.Links.{firstTerm, written}
 use Rattle.rules.specs.Refusals.{Refusal, outputShort, workShort, unless, _then_}
 use Rattle.rules.specs.Check.{refusal}
+use Rattle.rules.specs.Traces.{replacedTotal}
 
 -- "Ending (1 value, 2 spent, 3 full; endings that come later take the next numbers)."
 pub data Ending : Type 0 where
@@ -54,13 +55,11 @@ course types (suc fuel) t = elim (value t) [
 pub record Outcome : Type 0 where
   pub ending : Ending
   pub steps : ℕ
+  pub replaced : ℕ
   pub last : Term
 
 abbrev pub outcomeOf : Course → Outcome
-outcomeOf c = record { ending = c .ending; steps = length (c .trace); last = c .last }
-
-abbrev pub oneMore : Outcome → Outcome
-oneMore o = record { ending = o .ending; steps = suc (o .steps); last = o .last }
+outcomeOf c = record { ending = c .ending; steps = length (c .trace); replaced = replacedTotal (c .trace); last = c .last }
 
 abbrev pub run : Table → ℕ → Term → Outcome
 run types fuel t = outcomeOf (course types fuel t)
@@ -98,8 +97,10 @@ pub record RunAnswer : Type 0 where
   pub steps : ℕ
   pub rootType : ℕ
   pub written : ℕ
+  pub replaced : ℕ
 
--- "An accepted run returns ending, n, root type and written length. Every accepted answer has number and place 0."
+-- "An accepted run returns ending, n, root type and written length. Every accepted answer has number and place 0." By N2 "the result carries the total"
+-- of the replaced variables "for all its steps".
 abbrev pub accepted : Table → Course → RunAnswer
 accepted types c = record {
   number = 0;
@@ -108,11 +109,12 @@ accepted types c = record {
   steps = length (c .trace);
   rootType = typeOf (c .last);
   written = length (output types (c .last));
+  replaced = replacedTotal (c .trace);
 }
 
 -- "A refusal returns number and place, its other fields 0."
 abbrev pub refused : ℕ → ℕ → RunAnswer
-refused number place = record { number = number; place = place; ending = 0; steps = 0; rootType = 0; written = 0 }
+refused number place = record { number = number; place = place; ending = 0; steps = 0; rootType = 0; written = 0; replaced = 0 }
 
 unfoldable pub runAnswer : Edition → List ℕ → ℕ → ℕ → ℕ → RunAnswer
 runAnswer edition program fuel outLength workLength = elim (runRefusal edition program outLength workLength) [

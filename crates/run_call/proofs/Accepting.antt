@@ -24,7 +24,7 @@ module _ (p out work : List ℕ) (h : CanRunProgram firstEdition p out work) whe
   root-kept fuel = sym (tree-type (recordsOf p) (length (recordsOf p)) 1) ∙ sym (last-type firstEdition (omega arith) p (h .meets) fuel)
 
   pub accept-done : (fuel : ℕ) (out′ : List ℕ) (c : Completion) → RunsProgram p fuel out out′ c → (root : ℕ) → root ≡ typeNo (recordsOf p) 1
-      → Accepted p fuel out out′ (record { number = 0; place = 0; ending = c .ending; steps = c .steps; «root_type» = root; written = c .written })
+      → Accepted p fuel out out′ (record { number = 0; place = 0; ending = c .ending; steps = c .steps; «root_type» = root; written = c .written; replaced = c .replaced })
   accept-done fuel out′ c done root e = record {
     answer = λ i. record {
       number = 0;
@@ -33,6 +33,7 @@ module _ (p out work : List ℕ) (h : CanRunProgram firstEdition p out work) whe
       steps = done .does .steps i;
       rootType = (e ∙ root-kept fuel) i;
       written = done .does .written i;
+      replaced = done .does .replaced i;
     };
     output = done .does .bytes;
   }

@@ -12,7 +12,7 @@ use Rattle.rules.specs.WholeRun.{Demand3}
 use Rattle.run_call.specs.declared.RunAnswer.{RunAnswer}
 
 abbrev pub runMeant : RunAnswer → MeantRunAnswer
-runMeant r = record { number = r .number; place = r .place; ending = r .ending; steps = r .steps; rootType = r .«root_type»; written = r .written }
+runMeant r = record { number = r .number; place = r .place; ending = r .ending; steps = r .steps; rootType = r .«root_type»; written = r .written; replaced = r .replaced }
 
 -- What an accepted run ensures: the answer, and every byte of the output buffer.
 pub record Accepted (program : List ℕ) (fuel : ℕ) (out out′ : List ℕ) (r : RunAnswer) : Type 0 where

@@ -7,7 +7,8 @@ ghost use Rattle.running.specs.Programs.{CanRunProgram};
 ghost use Rattle.run_call.specs.Answers.{runMeant, Accepted, Ran};
 
 // What a run answers. Accepted: number and place are 0, ending is 1 for a value, 2 for spent fuel and 3 for a full table; the steps made, the
-// root's type and the written length. Refused: document 01's number and place, and the other fields 0.
+// root's type, the written length, and how many variables gave way in all the steps, which can pass 32 bits. Refused: document 01's number and place,
+// and the other fields 0.
 #[repr(C)]
 pub struct RunAnswer {
     pub number: u32,
@@ -16,6 +17,7 @@ pub struct RunAnswer {
     pub steps: u32,
     pub root_type: u32,
     pub written: u32,
+    pub replaced: u64,
 }
 
 // The answer of a refused run.
@@ -29,6 +31,7 @@ fn refusing(number: u16, place: u16) -> RunAnswer
         steps: 0,
         root_type: 0,
         written: 0,
+        replaced: 0,
     }
 }
 
@@ -46,6 +49,7 @@ fn accepted(program: &[u8], fuel: u32, output: &mut [u8], work: &mut [u8]) -> Ru
         steps: done.steps,
         root_type: root as u32,
         written: done.written,
+        replaced: done.replaced,
     }
 }
 

@@ -25,6 +25,7 @@ pub record CanFinish (table : List ℕ) (types : ℕ) (rs : List Record) (s : St
 pub record Finished (types : Table) (out out′ : List ℕ) (o : Outcome) (r : Completion) : Type 0 where
   pub ending : r .ending ≡ endingNumber (o .ending)
   pub steps : r .steps ≡ o .steps
+  pub replaced : r .replaced ≡ o .replaced
   pub written : r .written ≡ length (output types (o .last))
   pub bytes : out′ ≡ writtenOver out (output types (o .last))
 

@@ -1,17 +1,20 @@
--- Where a run stands after n steps: what it has left is the run of the term that it holds, with the fuel that is left.
-use Prim.Native.Nat.{ℕ, _+_, _-_, _≤_}
+-- Where a run stands after some steps: its course is these steps and then the course of the term that it holds, with the fuel that is left.
+use Prim.Native.Nat.{ℕ, _-_, _≤_}
+use mathlib.Core.List.{List, _++_}
 use mathlib.Core.Path.{_≡_}
+use lib.ListN.{length}
 use Rattle.rules.specs.Terms.{Term}
 use Rattle.rules.specs.Types.{Table}
-use Rattle.rules.specs.Run.{Ending, Outcome, run}
+use Rattle.rules.specs.Steps.{Event}
+use Rattle.rules.specs.Run.{Ending, Course, course}
 
--- An outcome after n steps more.
-abbrev pub after : ℕ → Outcome → Outcome
-after n o = record { ending = o .ending; steps = n + o .steps; last = o .last }
+-- The course of a run that makes steps with these events and then goes on as c; and of one that ends then.
+abbrev pub afterSteps : List Event → Course → Course
+afterSteps es c = record { ending = c .ending; trace = es ++ c .trace; last = c .last }
 
-abbrev pub endedAt : Ending → ℕ → Term → Outcome
-endedAt e n t = record { ending = e; steps = n; last = t }
+abbrev pub endedAfter : List Event → Ending → Term → Course
+endedAfter es e t = record { ending = e; trace = es; last = t }
 
-pub record Running (types : Table) (fuel : ℕ) (first : Term) (n : ℕ) (t : Term) : Type 0 where
-  pub within : n ≤ fuel
-  pub left : run types fuel first ≡ after n (run types (fuel - n) t)
+pub record Running (types : Table) (fuel : ℕ) (first : Term) (es : List Event) (t : Term) : Type 0 where
+  pub within : length es ≤ fuel
+  pub left : course types fuel first ≡ afterSteps es (course types (fuel - length es) t)

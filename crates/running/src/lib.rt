@@ -6,24 +6,32 @@ ghost use Rattle.running.specs.Finishing.{CanFinish, Finishes};
 ghost use Rattle.running.specs.Programs.{CanRunProgram, RunsProgram};
 use steps::State;
 
-// Steps until the term is a value, the fuel is spent or the table is full.
-fn run_steps(start: State, table: &[u8], fuel: u32, work: &mut [u8]) -> State
+// Where a run halts: its last state, and how many variables gave way in all its steps.
+struct Halted {
+    state: State,
+    replaced: u64,
+}
+
+// Steps until the term is a value, the fuel is spent or the table is full. What gives way in each step that is made is added up.
+fn run_steps(start: State, table: &[u8], fuel: u32, work: &mut [u8]) -> Halted
     requires { ⌜ CanRun (entriesIn (now table)) (recordsIn (now work)) start ⌝ }
     ensures { λ r. ⌜ RunsOut (entriesIn (now (table .entry))) fuel (recordsIn (now (work .entry))) (recordsIn (now (work .exit))) start r ⌝ }
 {
     let mut s = start;
+    let mut replaced: u64 = 0;
     loop {
         s = s.seek(work);
         if s.is_value() {
-            return s;
+            return Halted { state: s, replaced };
         }
         if fuel <= s.steps {
-            return s;
+            return Halted { state: s, replaced };
         }
         s = s.step(table, work);
         if s.stopped {
-            return s;
+            return Halted { state: s, replaced };
         }
+        replaced += s.event.replaced as u64;
     }
 }
 
@@ -37,10 +45,11 @@ fn ending_of(s: State) -> u32
     if s.stopped { 3 } else { 2 }
 }
 
-// What a run came to: the number of its ending, the steps made and the bytes written.
+// What a run came to: the number of its ending, the steps made, how many variables gave way in them, and the bytes written.
 pub struct Completion {
     pub ending: u32,
     pub steps: u32,
+    pub replaced: u64,
     pub written: u32,
 }
 
@@ -56,12 +65,14 @@ fn finish(
     requires { ⌜ CanFinish (now table) types (recordsIn (now work)) start (now output) ⌝ }
     ensures { λ r. ⌜ Finishes (now (table .entry)) fuel (recordsIn (now (work .entry))) start (now (output .entry)) (now (output .exit)) r ⌝ }
 {
-    let last = run_steps(start, table, fuel, work);
+    let halted = run_steps(start, table, fuel, work);
+    let last = halted.state;
     let ending = ending_of(last);
     let written = last.write_out(table, types, work, output);
     Completion {
         ending,
         steps: last.steps,
+        replaced: halted.replaced,
         written: written as u32,
     }
 }

@@ -65,6 +65,7 @@ pub struct Seen {
     refusals: [u64; 13],
     endings: [u64; 3],
     steps: u64,
+    replaced: u64,
     longest: u32,
 }
 
@@ -79,6 +80,7 @@ impl Seen {
             Ok(ran) => {
                 self.endings[ran.ending as usize] += 1;
                 self.steps += u64::from(ran.steps);
+                self.replaced += ran.replaced;
                 self.longest = self.longest.max(u16::from_le_bytes([output[2], output[3]]).into());
             }
             Err(refusal) => self.refusals[refusal.number as usize] += 1,
@@ -90,7 +92,7 @@ impl Seen {
         let refusals = (1..=12).map(|number| Row::wanted(format!("refused {number}"), self.refusals[number]));
         let mut rows = vec![Row::new("inputs", self.inputs), Row::new("passed", self.passed)];
         rows.extend(refusals.chain(endings));
-        rows.extend([Row::new("steps made", self.steps), Row::new("longest term", self.longest.into())]);
+        rows.extend([Row::new("steps made", self.steps), Row::wanted("variables replaced", self.replaced), Row::new("longest term", self.longest.into())]);
         rows
     }
 }
