@@ -8,10 +8,10 @@ use Rattle.vectors.proofs.print_files.Statement.{statement}
 use Rattle.vectors.proofs.print_files.Tie as tie
 
 abbrev Inv-loop : tie.InvT-loop
-Inv-loop names infer start₀ i₀ start i = (start ≤ i) × (i ≤ length names)
+Inv-loop names text start₀ i₀ start i = (start ≤ i) × (i ≤ length names)
 
 abbrev μ-loop : tie.MeasureT-loop
-μ-loop names infer start₀ i₀ start i = length names - i
+μ-loop names text start₀ i₀ start i = length names - i
 
 pub print-files-spec : {M : Type 1} → statement M
 print-files-spec =

@@ -1,4 +1,5 @@
-// What infer answers and writes, as text: a line of the answer's fields, a line for each type entry, and one for each record.
+// What infer and run answer and write, as text: a line of the answer's fields, a line for each type entry, and one for each record.
+use engine::RunAnswer;
 use libc::STDOUT_FILENO;
 ghost use Prim.Native.Nat.{_<_};
 
@@ -95,6 +96,33 @@ pub fn print_infer(program: &[u8]) {
     print_number(b" root=", answer.root_type as u64);
     print_number(b" length=", answer.written as u64);
     io::write_all(STDOUT_FILENO, b"\n");
+    if answer.number == 0 {
+        print_program(&output);
+    }
+}
+
+// The line of a run's answer.
+fn print_ran(answer: RunAnswer) {
+    print_number(b"number=", answer.number as u64);
+    print_number(b" place=", answer.place as u64);
+    print_number(b" ending=", answer.ending as u64);
+    print_number(b" steps=", answer.steps as u64);
+    print_number(b" root=", answer.root_type as u64);
+    print_number(b" length=", answer.written as u64);
+    print_number(b" replaced=", answer.replaced);
+    io::write_all(STDOUT_FILENO, b"\n");
+}
+
+// What run makes of an input, 4 bytes of fuel and a program.
+pub fn print_run(input: &[u8]) {
+    if input.len() < 4 {
+        return;
+    }
+    let fuel = number_at(input, 0) + 65536 * number_at(input, 2);
+    let mut output = [0u8; engine::OUTPUT];
+    let mut work = [0u8; engine::WORK];
+    let answer = engine::run(&input[4..], fuel as u32, &mut output, &mut work);
+    print_ran(answer);
     if answer.number == 0 {
         print_program(&output);
     }

@@ -88,7 +88,7 @@ static int call_run(struct call call, size_t n, size_t *length) {
     uint32_t fuel = n < 4 ? 0 : get32(bytes);
     struct muntinyarrow_run_answer a = muntinyarrow_run(bytes + cut, n - cut, fuel, output, call.output_length, work, call.work_length);
     *length = sprintf(told, "number=%u place=%u ending=%u ", a.number, a.place, a.ending);
-    *length += sprintf(told + *length, "steps=%u root=%u length=%u\n", a.steps, a.root_type, a.written);
+    *length += sprintf(told + *length, "steps=%u root=%u length=%u replaced=%llu\n", a.steps, a.root_type, a.written, (unsigned long long)a.replaced);
     if (a.number) return kept(0, 0);
     *length = tell_program(*length);
     return kept(a.written, MUNTINYARROW_WORK);

@@ -1,8 +1,8 @@
 -- `print_records` is safe and ends. The measure is how many of the records are left. Assumes nothing.
 use Prim.Native.Nat.{_-_, _≤_}
 use borrow.Author.Needs.{needs}
-use Rattle.vectors.proofs.infers.print_records.Statement.{statement}
-use Rattle.vectors.proofs.infers.print_records.Tie as tie
+use Rattle.vectors.proofs.answers.print_records.Statement.{statement}
+use Rattle.vectors.proofs.answers.print_records.Tie as tie
 
 abbrev Inv-loop : tie.InvT-loop
 Inv-loop bytes types count i₀ i = i ≤ count

@@ -1,8 +1,8 @@
 -- `print_entries` is safe and ends. The measure is how many of the entries are left. Assumes nothing.
 use Prim.Native.Nat.{_-_, _≤_}
 use borrow.Author.Needs.{needs}
-use Rattle.vectors.proofs.infers.print_entries.Statement.{statement}
-use Rattle.vectors.proofs.infers.print_entries.Tie as tie
+use Rattle.vectors.proofs.answers.print_entries.Statement.{statement}
+use Rattle.vectors.proofs.answers.print_entries.Tie as tie
 
 abbrev Inv-loop : tie.InvT-loop
 Inv-loop bytes types i₀ i = i ≤ types
