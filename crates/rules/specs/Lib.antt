@@ -1,4 +1,4 @@
--- Document 01 as definitions, about in the paper's order. Definitions only: what is true of them stands in proofs/.
+-- Document 01 as definitions, about in the paper's order, and what document 02's N2 adds to a run. Definitions only: what is true of them stands in proofs/.
 -- Words of our own: lists; rules as lists of conditions.
 pub mod Lists
 pub mod Conditions

@@ -51,7 +51,7 @@ course types (suc fuel) t = elim (value t) [
   ]
 ]
 
--- What of its course a run is asked for: the steps are as many as the events.
+-- What of its course a run is asked for: the steps are as many as the events, and the replaced variables those of all events.
 pub record Outcome : Type 0 where
   pub ending : Ending
   pub steps : ℕ

@@ -14,8 +14,8 @@ doubled = fixed nat (fun natToNat nat (app nat (fun natToNat nat (var nat 1)) (v
 abbrev pub refixed : Term
 refixed = ternary (match (matchShape matchFix)) (fields natCode natToNatCode 0 0) (quo natCode (fixed nat identity)) (quo natCode (fixed nat (spl natToNat (var natToNatCode 0)))) (quo natCode (num 0))
 
--- (fix(function Fn(Nat,Nat): function Nat: quote 0 matched with number 1, success: four uses of 0, failure: 1 0)) 0. In three steps it is itself again: the fix
--- gives way to one variable, the number to five, and of the match, which fails, nothing does.
+-- (fix(function Fn(Nat,Nat): function Nat: quote 0 matched with number 1, success: four uses of 0, failure: 1 0)) 0. In three steps it is itself again: one
+-- variable gives way to the fix, five to the number, and none in the match, which fails.
 abbrev pub cycling : Term
 cycling = app nat
     (fixed natToNat (fun fnToFn natToNat (fun natToNat nat (ternary (match (matchShape matchNumber)) (fields nat 0 0 1)

@@ -57,8 +57,8 @@ pub record WholeRun (edition : Edition) (types : Table) (first : Term) (fuel : �
   pub stops : length (c .trace) < fuel → T (value (c .last)) ⊎ Overfull types (c .last)
   pub ends : Ends types fuel (c .ending) (length (c .trace)) (c .last)
 
--- What is claimed of each accepted run, by the definitions that its answer and its output buffer equal: they are those of a whole run, and its
--- last term is written, which is passed and so is read back.
+-- What is claimed of each accepted run, by the definitions that its answer and its output buffer equal: they are those of a whole run, the number of its
+-- steps and the total of what gave way in them among the rest, and its last term is written, which is passed and so is read back.
 pub record Demand3 (edition : Edition) (program : List ℕ) (fuel : ℕ) (out : List ℕ) (workLength : ℕ) : Type 0 where
   pub course : Course
   pub whole : WholeRun edition (tableOf program) (firstTerm program) fuel course
