@@ -1,11 +1,11 @@
 //! Runs of generators: code is matched, rebuilt, put under binders; and many tiny ones.
-use super::trees::{balanced, identity, inert};
+use super::trees::{balanced, identity, inert, mixed};
 use super::{Call, Expected, Workload};
 use crate::muntinyarrow::Ending;
 use crate::programs::{Builder, Term};
 
 pub fn all() -> Vec<Workload> {
-    vec![layout_chain(), layout_tree(), open_code(), refilled(), tiny_files()]
+    vec![layout_chain(), layout_tree(), open_code(), few_free(), many_free(), different_codes(), opened_mixed(), refilled(), tiny_files()]
 }
 
 /// Walks layout code and rebuilds it with other numbers: `row x y` and `pad x` are told apart by the matches, 7 becomes 9 at the leaves, any
@@ -65,17 +65,51 @@ fn rows(build: &Builder, levels: u32) -> Term {
     build.application(build.application(build.variable(row, 1), left), padded)
 }
 
-/// A loop that puts open code at 8 places under 64 and more binders of a quote, so that its indices are raised, and then drops the quote.
 fn open_code() -> Workload {
     let build = Builder::default();
+    raised("open code raised under binders", &build, inert(&build, 60, 4))
+}
+
+/// The same with larger code, in which few of the indices are free, among indices of the code's own binders.
+fn few_free() -> Workload {
+    let build = Builder::default();
+    raised("raised code, one index of 16 free", &build, mixed(&build, 140, 4, 16, 3))
+}
+
+/// The same with as many free ones as others, without order.
+fn many_free() -> Workload {
+    let build = Builder::default();
+    raised("raised code, one index of 2 free", &build, mixed(&build, 140, 4, 2, 3))
+}
+
+/// 300 programs, each of which puts other such code under binders in one step: which indices are free can't be learnt from steps before.
+fn different_codes() -> Workload {
+    let program = |seed: u64| {
+        let build = Builder::default();
+        let put = build.function(build.code(build.nat()), put_under(&build));
+        under_four(&build, build.application(put, build.quote(mixed(&build, 140, 4, 2, seed))))
+    };
+    let expected = Expected::Ended { ending: Ending::Spent, steps: 300 };
+    Workload { name: "300 different codes raised", programs: (0..300).map(program).collect(), fuel: 1, call: Call::Run, expected }
+}
+
+/// A loop that puts code, open under 4 binders, under others again and again.
+fn raised(name: &'static str, build: &Builder, layout: Term) -> Workload {
+    let step = loop_over(build, build.code(build.nat()), put_under(build));
+    Workload::run(name, under_four(build, build.application(step, build.quote(layout))), 1_100, Ending::Spent, 1_100)
+}
+
+/// A program that splices code under 4 binders.
+fn under_four(build: &Builder, code: Term) -> Vec<u8> {
+    build.program(&build.quote((0..4).fold(build.splice(code), |body, _| build.function(build.nat(), body))))
+}
+
+/// Puts the code that variable 0 stands for at 8 places under 64 and more binders of a quote, so that its indices are raised, and then drops the quote.
+fn put_under(build: &Builder) -> Term {
     let nat = build.nat();
     let code = build.code(nat);
-    let under = (0..64).fold(uses(&build, 8, 64), |body, _| build.function(nat, body));
-    let kept = build.match_function(build.quote(under), build.variable(code, 1), build.variable(code, 0));
-    let step = loop_over(&build, code, kept);
-    let inner = build.splice(build.application(step, build.quote(inert(&build, 60, 4))));
-    let root = build.quote((0..4).fold(inner, |body, _| build.function(nat, body)));
-    Workload::run("open code raised under binders", build.program(&root), 1_100, Ending::Spent, 1_100)
+    let under = (0..64).fold(uses(build, 8, 64), |body, _| build.function(nat, body));
+    build.match_function(build.quote(under), build.variable(code, 1), build.variable(code, 0))
 }
 
 /// So many splices of the code variable that is bound outside of the binders, each but the first under one more.
@@ -106,6 +140,20 @@ fn refilled() -> Workload {
     let next = build.match_function(build.variable(state, 0), closed, build.variable(state, 0));
     let root = build.application(loop_over(&build, state, next), build.quote(function));
     Workload::run("function code opened and closed", build.program(&root), 2_000, Ending::Spent, 2_000)
+}
+
+/// The same with other variables in the body, half of them free and half bound in it, which stand among the uses.
+fn opened_mixed() -> Workload {
+    let build = Builder::default();
+    let nat = build.nat();
+    let (state, opened) = (build.code(build.fun(nat, nat)), build.fun(build.code(nat), build.code(nat)));
+    let filled = build.application(build.variable(opened, 1), build.quote(build.variable(nat, 0)));
+    let closed = build.quote(build.function(nat, build.splice(filled)));
+    let next = build.match_function(build.variable(state, 0), closed, build.variable(state, 0));
+    let body = mixed(&build, 300, 5, 2, 3);
+    let inner = build.application(loop_over(&build, state, next), build.quote(build.function(nat, body)));
+    let root = build.quote((0..4).fold(build.application(build.splice(inner), build.number(1)), |body, _| build.function(nat, body)));
+    Workload::run("mixed code opened and closed", build.program(&root), 2_000, Ending::Spent, 2_000)
 }
 
 /// 2,000 different programs of 4 to 15 records, one run each: what a call costs beside its steps.
