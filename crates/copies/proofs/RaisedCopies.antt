@@ -1,222 +1,197 @@
--- `copy_raised`: the root, the children one after another, and a tree that is copied as a block. `copying-raised` for search.
-use Prim.Native.Nat.{ℕ, _+_, _-_, _*_, _^_, _≤_, _<_}
+-- `copy_raised`: how its loop begins and ends, and a turn of it.
+use Prim.Native.Nat.{ℕ, _+_, _-_, _*_, _/_, _^_, _≤_, _<_}
 use native.Mathlib.Omega.{arith}
-use native.Mathlib.Numerals.{add-one}
-use mathlib.Core.List.{List, [], _∷_, _++_}
-use mathlib.Core.Logic.{inl, inr, ⊎-elim}
-use mathlib.Core.Path.{_≡_, refl, sym, ap, _∙_}
-use lib.ListN.{length, set, length-set}
+use native.Mathlib.Nat.{add-zero}
+use mathlib.Core.List.{List, [], _∷_, _++_, append-nil}
+use mathlib.Core.Path.{_≡_, refl, sym, ap, _∙_, subst}
+use lib.ListN.{length, getD}
 use mir.Syntax.{w16, w64}
 use mir.Val.{Fits}
 use Rattle.rules.specs.Kinds.{childCount, kindOf}
 use Rattle.rules.specs.Terms.{Term, rootKind, size}
-use Rattle.rules.specs.FreeBounds.{freeBound}
 use Rattle.rules.specs.Indices.{changed, raising}
-use Rattle.rules.specs.Format.{Record}
-use Rattle.rules.proofs.KindTable.{kind-back}
+use Rattle.rules.specs.Format.{Record, noRecord}
 use Rattle.rules.proofs.Laid.{size-some}
 use Rattle.rules.proofs.FreeBounds.{changed-low, raising-low}
 use Rattle.records.specs.View.{recordsIn}
 use Rattle.records.proofs.Records.{records-length}
-use Rattle.terms.specs.Preorder.{puts, part, Apart, head, preorder, There, HasTree, Skips}
+use Rattle.terms.specs.Preorder.{puts, part, preorder, At, HasTree}
 use Rattle.terms.specs.Moves.{CanMove, Moved}
 use Rattle.terms.specs.Children.{kids, sizes, preorders}
-use Rattle.terms.proofs.Puts.{length-puts, puts-append}
-use Rattle.terms.proofs.Children.{kids-sizes}
-use Rattle.terms.specs.Measuring.{bindersOver, BoundIs, KindIs}
-use Rattle.copies.specs.Raising.{RaisingAt, CanRaise, Raises, CanRaiseRoot, RaisesRoot}
-use Rattle.terms.proofs.There.{there-stays, there-rest, there-set-stays}
-use Rattle.terms.proofs.Trees.{length-preorder, length-preorders, preorder-kids, at-first, kind-read, at-within}
-use Rattle.terms.proofs.Joined.{binds-few}
-use Rattle.copies.proofs.Roots.{changedChildren}
-use Rattle.copies.proofs.Rows.{child, after, child-split, child-low, none-after, Row, row-starts, Turn, row-turn}
-use Rattle.copies.proofs.RaisedRoots.{raise-kept, size-raised}
+use Rattle.terms.proofs.Children.{kids-count}
+use Rattle.terms.proofs.Trees.{length-preorder, at-first, kind-at, at-within}
+use Rattle.terms.proofs.Readings.{bound-reads}
 use Rattle.terms.proofs.Moving.{apart-moves}
+use Rattle.copies.specs.Copying.{TreeSize}
+use Rattle.copies.specs.Raising.{RaisingAt, CanRaise, Raises, CanRaiseRoot, RaisesRoot}
+use Rattle.copies.proofs.Parts.{tree-read}
+use Rattle.copies.proofs.RaisedLeaves.{raise, leaf-index-fits, leaf-next-fits}
+use Rattle.copies.proofs.RaisedRows.{raisedTrees, Uncopied, Remaining, NextTree, Pending, first-left, first-raises, first-copied, first-opened, Overs, trees-opened}
 
--- A tree without such an index, as a block.
-module _ (rs : List Record) (src dst n d : ℕ) where
-  pub raise-in : CanRaise rs src dst n d → src < length rs
-  raise-in h = at-first rs src (h .tree) (h .raises .there)
+-- A tree without such an index is copied as a block; the root of one that has some is raised.
+module _ (rs : List Record) (src dst n d : ℕ) (r : Record) (e : r ≡ getD rs src noRecord) where
+  flat-can : CanRaise rs src dst n d → (m : ℕ) → m ≡ r .first → CanMove rs src dst m
+  flat-can h m f = rw (f ∙ tree-read rs src r e .is (h .tree) (h .raises .there))
+      (record { from = at-within rs src (h .tree) (h .raises .there); to = h .raises .room; apart = apart-moves src dst (size (h .tree)) (h .raises .apart) })
 
-  module _ (e : ℕ) (sk : Skips rs src e) where
-    pub flat-down : CanRaise rs src dst n d → src ≤ e
-    flat-down h = omega (arith, sk .is (h .tree) (h .raises .there))
-
-    pub flat-can : CanRaise rs src dst n d → CanMove rs src dst (e - src)
-    flat-can h =
-        let q : e - src ≡ size (h .tree) = omega (arith, sk .is (h .tree) (h .raises .there)) in
-        rw q (record { from = at-within rs src (h .tree) (h .raises .there); to = h .raises .room; apart = apart-moves src dst (size (h .tree)) (h .raises .apart) })
-
-    pub flat-does : (rs′ : List Record) (b : ℕ) → BoundIs rs src b → b ≤ d → Moved rs rs′ src dst (e - src) → Raises rs rs′ src dst n d
-    flat-does rs′ b p l m = record {
-      does = λ t h.
-          let q : e - src ≡ length (preorder t) = omega (arith, sk .is t (h .there), length-preorder t) in
-          m .is ∙ ap (puts rs dst) (ap (part rs src) q ∙ h .there .there .is ∙ ap (preorder) (sym (changed-low (raising n) (raising-low n) d t (omega (arith, p .is t (h .there))))));
-    }
-
-  pub raise-root : (b : ℕ) → BoundIs rs src b → d < b → CanRaise rs src dst n d → CanRaiseRoot rs src dst n d
-  raise-root b p l h = record { tree = h .tree; raises = h .raises; free = omega (arith, p .is (h .tree) (h .raises .there)) }
-
--- The children: those of t stand behind its root.
-record KidsAt (rs : List Record) (src dst n d k : ℕ) (t : Term) : Type 0 where
-  kind : kindOf k ≡ rootKind t
-  children : There rs (src + 1) (preorders (kids t))
-  room : dst + size t ≤ length rs
-  apart : Apart src dst (size t)
-  small : 2 * (freeBound t + 2 * size t + n) + 1 < 65536
-  deep : d + 2 * size t < 65536
-
--- Before child j is copied from `at` to `to`: the children from j on are left, and once their copies are written all are.
-record LeftOf (rs₁ : List Record) (src dst n d : ℕ) (rs : List Record) (at to j : ℕ) (t : Term) : Type 0 where
-  row : Row rs src at j t
-  place : to + sizes (after t j) ≡ dst + size t
-  same : length rs ≡ length rs₁
-  written : puts rs to (preorders (changedChildren (raising n) d (rootKind t) j (after t j))) ≡ puts rs₁ (dst + 1) (preorders (changedChildren (raising n) d (rootKind t) 0 (kids t)))
-
--- The loop over the c children, of which those before j are copied.
-pub record Raising (rs₁ : List Record) (src dst n d k c : ℕ) (rs : List Record) (at to j : ℕ) : Type 0 where
-  count : c ≡ childCount (kindOf k)
-  short : length rs₁ < 2 ^ 60
-  all : (t : Term) → KidsAt rs₁ src dst n d k t → LeftOf rs₁ src dst n d rs at to j t
-  tree : Term
-  kids : KidsAt rs₁ src dst n d k tree
-
--- The root is written: the children are left.
-module _ (rs rs₁ : List Record) (src dst n d b k : ℕ) (p : BoundIs rs src b) (l : d < b) (kd : KindIs rs src k) (w : RaisesRoot rs rs₁ src dst n d) where
-  root-is : (t : Term) → RaisingAt rs src dst n d t → rs₁ ≡ set rs dst (head (changed (raising n) d t))
-  root-is t h = w .does t h (omega (arith, p .is t (h .there)))
-
-  kids-at : (t : Term) → RaisingAt rs src dst n d t → KidsAt rs₁ src dst n d k t
-  kids-at t h =
-      let e = root-is t h in
-      let x = head (changed (raising n) d t) in
-      let c : There rs src (head t ∷ preorders (kids t)) = rw (preorder-kids t) at (h .there .there) in
-      let m = length-preorders (kids t) in
-      let s = kids-sizes t in
-      record {
-        kind = ap kindOf (kd .is ∙ kind-read rs src t (h .there)) ∙ kind-back (rootKind t);
-        children = rw e (there-set-stays rs dst x (src + 1) _ (⊎-elim (λ q. inl (omega arith)) (λ q. inr (omega arith)) (h .apart)) (there-rest rs src (head t ∷ []) _ c));
-        room = omega (arith, h .room, ap length e ∙ length-set rs dst x);
-        apart = h .apart;
-        small = h .small;
-        deep = h .deep;
-      }
-
-  pub raise-starts : (c : ℕ) → c ≡ childCount (kindOf k) → length rs < 2 ^ 60 → CanRaise rs src dst n d → Raising rs₁ src dst n d k c rs₁ (src + 1) (dst + 1) 0
-  unfolding after
-  raise-starts c o b h = record {
-    count = o;
-    short = omega (arith, b, ap length (root-is (h .tree) (h .raises)) ∙ length-set rs dst _);
-    all = λ t g. record { row = row-starts rs₁ src t (g .children); place = omega (arith, kids-sizes t); same = refl; written = refl };
-    tree = h .tree;
-    kids = kids-at (h .tree) (h .raises);
+  pub flat-does : (rs′ : List Record) → r .next / 2 ≤ d → (m : ℕ) → m ≡ r .first → Moved rs rs′ src dst m → Raises rs rs′ src dst n d
+  flat-does rs′ l m f w = record {
+    does = λ t h.
+        let q : m ≡ length (preorder t) = f ∙ tree-read rs src r e .is t (h .there) ∙ sym (length-preorder t) in
+        w .is ∙ ap (puts rs dst) (ap (part rs src) q ∙ h .there .there .is ∙ ap preorder (sym (changed-low (raising n) (raising-low n) d t (omega (arith, bound-reads rs src r e .is t (h .there))))));
   }
 
-  pub raise-ends : (rs′ : List Record) (at to j c : ℕ) → Raising rs₁ src dst n d k c rs′ at to j → c ≤ j → Raises rs rs′ src dst n d
-  unfolding puts preorders changedChildren
-  raise-ends rs′ at to j c r q = record { does = λ t h. told t h (kids-at t h) }
+  raise-root : d < r .next / 2 → CanRaise rs src dst n d → CanRaiseRoot rs src dst n d
+  raise-root l h = record { tree = h .tree; raises = h .raises; free = omega (arith, bound-reads rs src r e .is (h .tree) (h .raises .there)) }
+
+-- Where it starts and where it ends.
+module _ (rs : List Record) (src dst n d : ℕ) (h : CanRaise rs src dst n d) where
+  pub raise-tree : HasTree rs src
+  raise-tree = record { tree = h .tree; there = h .raises .there }
+
+  pub raise-in : src < length rs
+  raise-in = at-first rs src (h .tree) (h .raises .there)
+
+  raise-room : dst < length rs
+  raise-room = omega (arith, h .raises .room, size-some (h .tree))
+
+  pub raise-starts : Pending rs src dst n d rs 0 []
+  unfolding raisedTrees preorders sizes
+  raise-starts = record {
+    all = λ t g. record {
+      trees = t ∷ [];
+      left = record {
+        enough = omega arith;
+        there = rw (add-zero src, append-nil (preorder t)) (g .there .there);
+        from = omega arith;
+        same = refl;
+        low = (omega arith, tt);
+        written = rw (add-zero dst, append-nil (preorder (changed (raising n) d t)));
+      };
+    };
+    tree = h .tree;
+    raises = h .raises;
+  }
+
+module _ (rs₀ : List Record) (src dst n d all : ℕ) (m : TreeSize rs₀ src all) (rs : List Record) (i : ℕ) (p : Pending rs₀ src dst n d rs i []) where
+  pub raise-ends : all ≤ i → Raises rs₀ rs src dst n d
+  unfolding raisedTrees sizes puts
+  raise-ends l = record { does = λ t h. ended t h (p .all t h .trees) (p .all t h .left) }
     where
-      told : (t : Term) → RaisingAt rs src dst n d t → KidsAt rs₁ src dst n d k t → rs′ ≡ puts rs dst (preorder (changed (raising n) d t))
-      told t h g =
-          let i : rs′ ≡ puts rs₁ (dst + 1) (preorders (changedChildren (raising n) d (rootKind t) 0 (kids t))) =
-          rw (none-after t j (omega (arith, r .count ∙ ap childCount (g .kind)))) at (r .all t g .written) in
-          i ∙ (rw (root-is t h, preorder-kids (changed (raising n) d t), raise-kept n d t .children))
+      ended : (t : Term) → RaisingAt rs₀ src dst n d t → (vs : List Term) → Uncopied rs₀ src dst n d rs i [] t vs → rs ≡ puts rs₀ dst (preorder (changed (raising n) d t))
+      ended t h [] r = r .written
+      ended t h (v ∷ vs) r = absurd (omega (arith, m .is t (h .there), r .from, size-some v))
 
--- A turn of the loop. What the code computes (the next n, depth and place) is a premise of its own, an equation: so `search` compares no sums of
--- numbers of the state.
-module _ (rs₁ : List Record) (src dst n d k c : ℕ) (rs : List Record) (at to j : ℕ) (r : Raising rs₁ src dst n d k c rs at to j) where
-  module _ (l : j < c) where
-    module _ (t : Term) (g : KidsAt rs₁ src dst n d k t) where
-      next-one : j < childCount (rootKind t)
-      next-one = omega (arith, r .count ∙ ap childCount (g .kind))
-
-      next-turn : Turn rs src at j t
-      next-turn = row-turn rs src at j t (r .all t g .row) next-one
-
-      next-place : to + (size (child t j) + sizes (after t (j + 1))) ≡ dst + size t
+  -- A turn: there is a tree, which can be copied.
+  module _ (l : i < all) where
+    module _ (t : Term) (h : RaisingAt rs₀ src dst n d t) where
+      turn-next : NextTree rs₀ src dst n d rs i [] t
       unfolding sizes
-      next-place = rw (child-split t j next-one) at (r .all t g .place)
+      turn-next = some-tree (p .all t h .trees) (p .all t h .left)
+        where
+          some-tree : (vs : List Term) → Uncopied rs₀ src dst n d rs i [] t vs → NextTree rs₀ src dst n d rs i [] t
+          some-tree [] r = absurd (omega (arith, m .is t (h .there), r .from))
+          some-tree (v ∷ vs) r = record { first = v; later = vs; left = r }
 
-      next-raising : RaisingAt rs at to n (d + bindersOver (rootKind t) j) (child t j)
-      next-raising =
-          let q = r .all t g in
-          let v = next-turn .next .from in
-          record {
-            there = next-turn .there;
-            room = omega (arith, next-place, g .room, q .same);
-            apart = ⊎-elim (λ x. inl (omega (arith, next-place, q .row .begun))) (λ x. inr (omega (arith, next-place, q .row .begun))) (g .apart);
-            small = omega (arith, g .small, child-low t j next-one, binds-few (rootKind t) j, q .row .begun);
-            deep = omega (arith, g .deep, binds-few (rootKind t) j, q .row .begun);
+      turn-raises : RaisingAt rs (src + i) (dst + i) n d (turn-next .first)
+      turn-raises = let x = turn-next in first-raises rs₀ src dst n d t h rs i [] (x .first) (x .later) (x .left) (omega (arith, first-left rs₀ src dst n d t h rs i [] (x .first) (x .later) (x .left)))
+
+    turn-can : CanRaise rs (src + i) (dst + i) n d
+    turn-can = record { tree = turn-next (p .tree) (p .raises) .first; raises = turn-raises (p .tree) (p .raises) }
+
+    pub turn-in : src + i < length rs
+    turn-in = raise-in rs (src + i) (dst + i) n d turn-can
+
+    turn-room : dst + i < length rs
+    turn-room = raise-room rs (src + i) (dst + i) n d turn-can
+
+    module _ (rs′ : List Record) (r : Record) (e : r ≡ getD rs (src + i) noRecord) where
+      -- It is copied.
+      turn-copied : Raises rs rs′ (src + i) (dst + i) n d → (j : ℕ) → j ≡ i + r .first → Pending rs₀ src dst n d rs′ j []
+      turn-copied w j f = record { all = λ t h. copied t h (turn-next t h) (w .does (turn-next t h .first) (turn-raises t h)) (turn-raises t h .there); tree = p .tree; raises = p .raises }
+        where
+          copied : (t : Term) (h : RaisingAt rs₀ src dst n d t) (x : NextTree rs₀ src dst n d rs i [] t) → rs′ ≡ puts rs (dst + i) (preorder (changed (raising n) d (x .first))) → At rs (src + i) (x .first)
+              → Remaining rs₀ src dst n d rs′ j [] t
+          copied t h x q a = record {
+            trees = x .later;
+            left = first-copied rs₀ src dst n d t h rs i [] (x .first) (x .later) (x .left) rs′ q j (f ∙ ap (λ s. i + s) (tree-read rs (src + i) r e .is (x .first) a));
           }
 
-    pub turn-tree : HasTree rs at
-    turn-tree = record { tree = child (r .tree) j; there = next-turn (r .tree) (r .kids) .there }
-
-  module _ (m : ℕ) (o : m ≡ bindersOver (kindOf k) j) where
-    over : (t : Term) → KidsAt rs₁ src dst n d k t → m ≡ bindersOver (rootKind t) j
-    over t g = o ∙ ap (λ x. bindersOver x j) (g .kind)
-
-    pub turn-deep : (e : ℕ) → e ≡ d + m → Fits w16 e
-    turn-deep e q = omega (arith, r .kids .deep, o, binds-few (kindOf k) j, size-some (r .tree))
-
-    pub turn-raises : j < c → (e n′ : ℕ) → e ≡ d + m → n′ ≡ n → CanRaise rs at to n′ e
-    turn-raises l e n′ p q = rw (p, q) (record { tree = child (r .tree) j; raises = rw (over (r .tree) (r .kids)) (next-raising l (r .tree) (r .kids)) })
-
-  module _ (end : ℕ) (sk : Skips rs at end) (l : j < c) where
-    pub turn-down : at ≤ end
-    turn-down = omega (arith, sk .is (child (r .tree) j) (next-turn l (r .tree) (r .kids) .there))
-
-    pub turn-to-fits : Fits w64 (to + (end - at))
-    turn-to-fits =
-        let q = next-raising l (r .tree) (r .kids) in
-        omega (arith, sk .is (child (r .tree) j) (q .there), q .room, r .all (r .tree) (r .kids) .same, r .short)
-
-    pub turn-next : (rs′ : List Record) (m : ℕ) → Raises rs rs′ at to n (d + m) → m ≡ bindersOver (kindOf k) j → (to′ : ℕ) → to′ ≡ to + (end - at) → Raising rs₁ src dst n d k c rs′ end to′ (j + 1)
-    unfolding changedChildren preorders
-    turn-next rs′ m w o to′ p = record { count = r .count; short = r .short; all = next; tree = r .tree; kids = r .kids }
-      where
-        next : (t : Term) → KidsAt rs₁ src dst n d k t → LeftOf rs₁ src dst n d rs′ end to′ (j + 1) t
-        next t g =
-            let q = r .all t g in
-            let f = next-turn l t g .next in
-            let u = child t j in
-            let v = changed (raising n) (d + bindersOver (rootKind t) j) u in
-            let xs = preorder v in
-            let i : rs′ ≡ puts rs to xs = rw (over m o t g) at (w .does u (rw (over m o t g) (next-raising l t g))) in
-            let z : length xs ≡ size u = length-preorder v ∙ size-raised n (d + bindersOver (rootKind t) j) u in
-            let y = sk .is u (next-turn l t g .there) in
-            let x : to′ ≡ to + length xs = omega arith in
-            let rest = changedChildren (raising n) d (rootKind t) (j + 1) (after t (j + 1)) in
-            let old : puts rs to (xs ++ preorders rest) ≡ puts rs₁ (dst + 1) (preorders (changedChildren (raising n) d (rootKind t) 0 (kids t))) =
-            rw (add-one j) (rw (child-split t j (next-one l t g), add-one j) at (q .written)) in
-            record {
-              row = record {
-                there = rw (i, y) (there-stays rs to xs (at + size u) (preorders (after t (j + 1)))
-                    (⊎-elim (λ a. inl (omega (arith, f .from, next-place l t g, q .row .begun, length-preorders (after t (j + 1))))) (λ a. inr (omega (arith, next-place l t g, q .row .begun))) (g .apart)) (f .there));
-                from = omega (arith, f .from);
-                begun = omega (arith, q .row .begun);
-              };
-              place = omega (arith, next-place l t g);
-              same = ap length i ∙ length-puts rs to xs ∙ q .same;
-              written = ap (λ s. puts s to′ (preorders rest)) i ∙ ap (λ s. puts (puts rs to xs) s (preorders rest)) x ∙ sym (puts-append rs to xs (preorders rest)) ∙ old;
-            }
+      -- Its root is.
+      pub turn-opened : RaisesRoot rs rs′ (src + i) (dst + i) n d → d < r .next / 2 → (fs : List ℕ) → length fs ≤ childCount (kindOf (r .kind)) → Overs d (kindOf (r .kind)) 0 fs → Pending rs₀ src dst n d rs′ (i + 1) fs
+      turn-opened w b fs c g = record { all = λ t h. opened t h (turn-next t h) (turn-raises t h); tree = p .tree; raises = p .raises }
+        where
+          opened : (t : Term) (h : RaisingAt rs₀ src dst n d t) (x : NextTree rs₀ src dst n d rs i [] t) → RaisingAt rs (src + i) (dst + i) n d (x .first) → Remaining rs₀ src dst n d rs′ (i + 1) fs t
+          opened t h x a =
+              let k : kindOf (r .kind) ≡ rootKind (x .first) = ap (λ y. kindOf (y .kind)) e ∙ kind-at rs (src + i) (x .first) (a .there) in
+              let o : length fs ≤ length (kids (x .first)) = omega (arith, kids-count (x .first), ap childCount k) in
+              record {
+                trees = kids (x .first) ++ x .later;
+                left = first-opened rs₀ src dst n d t h rs i (x .first) (x .later) (x .left) fs o
+                    (trees-opened n d (rootKind (x .first)) (x .later) (kids (x .first)) 0 fs o (subst (λ k. Overs d k 0 fs) k g)) rs′ (w .does (x .first) a (omega (arith, bound-reads rs (src + i) r e .is (x .first) (a .there))));
+              }
 
 -- Places and lengths.
-pub raise-from-fits : (s : List ℕ) (src dst n d : ℕ) → CanRaise (recordsIn s) src dst n d → length s < 2 ^ 64 → Fits w64 (src + 1)
-raise-from-fits s src dst n d h b = omega (arith, raise-in (recordsIn s) src dst n d h, records-length s)
+module _ (s₀ : List ℕ) (src dst n d all : ℕ) (m : TreeSize (recordsIn s₀) src all) (s : List ℕ) (i : ℕ) (p : Pending (recordsIn s₀) src dst n d (recordsIn s) i []) (l : i < all) (b : length s₀ < 2 ^ 64) where
+  all-fits : (src + all < 2 ^ 64) × (dst + all < 2 ^ 64)
+  all-fits =
+      let q = m .is (p .tree) (p .raises .there) in
+      (omega (arith, at-within (recordsIn s₀) src (p .tree) (p .raises .there), records-length s₀), omega (arith, p .raises .room, records-length s₀))
 
-pub raise-to-fits : (s : List ℕ) (src dst n d : ℕ) → CanRaise (recordsIn s) src dst n d → length s < 2 ^ 64 → Fits w64 (dst + 1)
-raise-to-fits s src dst n d h b = omega (arith, h .raises .room, size-some (h .tree), records-length s)
+  pub turn-from-fits : Fits w64 (src + i)
+  turn-from-fits = omega (arith, all-fits)
 
-pub records-short : (s : List ℕ) → length s < 2 ^ 64 → length (recordsIn s) < 2 ^ 60
-records-short s b = omega (arith, records-length s)
+  pub turn-to-fits : Fits w64 (dst + i)
+  turn-to-fits = omega (arith, all-fits)
 
--- What falls: the records from the tree on.
-pub turn-falls : (s₀ : List ℕ) (src q : ℕ) → length (recordsIn s₀) - src ≡ q → (s₁ : List ℕ) (dst n d k c : ℕ) (s : List ℕ) (at to j : ℕ) → Raising (recordsIn s₁) src dst n d k c (recordsIn s) at to j
-    → j < c → length s₁ ≡ length s₀ → length (recordsIn s) - at < q
-turn-falls s₀ src q g s₁ dst n d k c s at to j r l e =
-    let h = r .all (r .tree) (r .kids) in
-    omega (arith, h .row .begun, h .same, records-length s₁, records-length s₀, at-first (recordsIn s) at _ (turn-tree (recordsIn s₁) src dst n d k c (recordsIn s) at to j r l .there))
+-- What is known once the root r of the tree at hand is read: of the bytes s₀ at the start and s now.
+pub record TreeRead (s₀ s : List ℕ) (src dst n d all i : ℕ) (r : Record) : Type 0 where
+  pub short : length s₀ < 2 ^ 64
+  pub whole : TreeSize (recordsIn s₀) src all
+  pub row : Pending (recordsIn s₀) src dst n d (recordsIn s) i []
+  pub going : i < all
+  pub read : r ≡ getD (recordsIn s) (src + i) noRecord
 
-pub ruleset copying-raised =
-    (raise-in, flat-down, flat-can, flat-does, raise-root, raise-starts, raise-ends, turn-tree, turn-deep, turn-raises, turn-down, turn-next, raise-from-fits, raise-to-fits, turn-to-fits, records-short)
+module _ (s₀ s : List ℕ) (src dst n d all i : ℕ) (r : Record) (o : TreeRead s₀ s src dst n d all i r) where
+  can : CanRaise (recordsIn s) (src + i) (dst + i) n d
+  can = turn-can (recordsIn s₀) src dst n d all (o .whole) (recordsIn s) i (o .row) (o .going)
+
+  pub read-fits : (src + all < 2 ^ 64) × (dst + all < 2 ^ 64)
+  read-fits = all-fits s₀ src dst n d all (o .whole) s i (o .row) (o .going) (o .short)
+
+  pub read-room : dst + i < length (recordsIn s)
+  read-room = turn-room (recordsIn s₀) src dst n d all (o .whole) (recordsIn s) i (o .row) (o .going)
+
+  -- A leaf.
+  pub read-index-fits : r .first ≡ 1 → r .fields .a < 65536 → Fits w16 (r .fields .a + raise n d (r .next / 2))
+  read-index-fits k l = leaf-index-fits (recordsIn s) (src + i) (dst + i) n d r (o .read) can k l
+
+  pub read-next-fits : (m : ℕ) → m ≤ n → Fits w16 (r .next + 2 * m)
+  read-next-fits m l = leaf-next-fits (recordsIn s) (src + i) (dst + i) n d r (o .read) can m l
+
+  pub read-twice-fits : (m : ℕ) → m ≤ n → Fits w16 (2 * m)
+  read-twice-fits m l = omega (arith, can .raises .small)
+
+  -- A block, or a root that is raised.
+  pub read-moves : CanMove (recordsIn s) (src + i) (dst + i) (r .first)
+  read-moves = flat-can (recordsIn s) (src + i) (dst + i) n d r (o .read) can _ refl
+
+  pub read-root-can : d < r .next / 2 → CanRaiseRoot (recordsIn s) (src + i) (dst + i) n d
+  read-root-can b = raise-root (recordsIn s) (src + i) (dst + i) n d r (o .read) b can
+
+  read-size-in : (0 < r .first) × (i + r .first ≤ all)
+  read-size-in =
+      let h = o .row .raises in
+      let x = turn-next (recordsIn s₀) src dst n d all (o .whole) (recordsIn s) i (o .row) (o .going) (o .row .tree) h in
+      let y = turn-raises (recordsIn s₀) src dst n d all (o .whole) (recordsIn s) i (o .row) (o .going) (o .row .tree) h in
+      let q = tree-read (recordsIn s) (src + i) r (o .read) .is (x .first) (y .there) in
+      (omega (arith, size-some (x .first)), omega (arith, o .whole .is (o .row .tree) (h .there), first-left (recordsIn s₀) src dst n d (o .row .tree) h (recordsIn s) i [] (x .first) (x .later) (x .left)))
+
+  pub read-size-fits : Fits w64 (i + r .first)
+  read-size-fits = omega (arith, read-size-in, read-fits)
+
+  pub read-less : all - (i + r .first) < all - i
+  read-less = omega (arith, read-size-in, o .going)
+
+  pub read-copied : (s′ : List ℕ) → Raises (recordsIn s) (recordsIn s′) (src + i) (dst + i) n d → (j : ℕ) → j ≡ i + r .first → Pending (recordsIn s₀) src dst n d (recordsIn s′) j []
+  read-copied s′ w j e = turn-copied (recordsIn s₀) src dst n d all (o .whole) (recordsIn s) i (o .row) (o .going) (recordsIn s′) r (o .read) w j e

@@ -3,7 +3,8 @@ use Prim.Native.Nat.{ℕ, _+_, _-_, _*_, _/_, _^_, _≤_, _<_, max}
 use native.Mathlib.Omega.{arith}
 use native.Mathlib.Decide.{decLt, ℕ-discrete}
 use mathlib.Core.List.{List, [], _∷_}
-use mathlib.Core.Bool.{Bool, true, false}
+use mathlib.Core.Bool.{Bool, true, false, true≢false}
+use mathlib.Core.Logic.{_≢_, inl, inr, ⊎-elim}
 use mathlib.Core.Path.{_≡_, refl, sym, ap, ap₂, _∙_}
 use lib.Dec.{eqb}
 use lib.ListN.{length, getD, set, length-set}
@@ -11,12 +12,13 @@ use borrow.Author.Tests.{lt-ltb, le-ltb, eq-eqb, ne-eqb, eqb-true}
 use mir.Syntax.{w16, w64}
 use mir.Val.{Fits}
 use Rattle.rules.specs.Kinds.{number, variable, matchVariable, matchShape, match, childCount, kindOf}
-use Rattle.rules.specs.Terms.{Fields, Term, leaf, unary, binary, ternary, size, onlyType}
+use Rattle.rules.specs.Terms.{Fields, Term, leaf, unary, binary, ternary, rootKind, size, onlyType}
 use Rattle.rules.specs.Binders.{binds₁, binds₃}
 use Rattle.rules.specs.FreeBounds.{freeBound}
 use Rattle.rules.specs.Values.{plain}
-use Rattle.rules.specs.Indices.{changed, raising, raisedIndex, wrapping, namesRemoved}
+use Rattle.rules.specs.Indices.{Change, changed, raising, raisedIndex, wrapping, namesRemoved}
 use Rattle.rules.specs.Format.{Record, noRecord}
+use Rattle.rules.proofs.Laid.{size-some}
 use Rattle.rules.proofs.FreeBounds.{KeepsLow}
 use Rattle.rules.proofs.ChangedBounds.{raised-most, bound-wrapped}
 use Rattle.records.specs.View.{recordsIn, RecordPut}
@@ -24,11 +26,13 @@ use Rattle.records.proofs.Records.{records-length}
 use Rattle.terms.specs.Preorder.{puts, head, preorder, At, HasTree, Skips}
 use Rattle.terms.specs.Moves.{CanMove}
 use Rattle.terms.specs.Measuring.{bindersOver, HasRooted, MarksRoot}
-use Rattle.copies.specs.Copying.{CanCopy, Copies, BlockMoved, isNamed, MovesRoot}
+use Rattle.copies.specs.Copying.{CopyAt, CanCopy, Copies, BlockMoved, isNamed, MovesRoot}
+use Rattle.copies.specs.Raising.{RaisingAt, CanRaise, Raises}
 use Rattle.copies.specs.Wrapping.{splicedUse, wrappingUnder, Wrapping, PutsUse, RoomForUse, CanWrapRoot}
-use Rattle.copies.proofs.RaisedRoots.{index-fits}
+use Rattle.copies.proofs.RaisedRoots.{size-raised, index-fits}
+use Rattle.copies.proofs.Parts.{named-other}
 use Rattle.terms.proofs.Puts.{put-before}
-use Rattle.copies.proofs.Copies.{Sound, Spot, named, read-root, read-spot, copy-in, copy-to, block-can, block-does, Copying, copy-starts, turn-tree, turn-deep, turn-can, turn-next, copy-rooted, copy-ends, copy-from-fits, copy-falls}
+use Rattle.copies.proofs.Copies.{Sound, read-root, read-bound, read-kind, copy-in, copy-to, block-can, block-does, Copying, copy-starts, turn-tree, turn-deep, turn-can, turn-next, copy-rooted, copy-ends, copy-from-fits, copy-falls}
 
 -- Raising after wrapping is one walk.
 module _ (n code : ℕ) where
@@ -123,15 +127,50 @@ module _ (rs rs₁ rs₂ : List Record) (dst code : ℕ) (r : Record) where
       two-more : (f : Fields) → dst + 2 ≡ dst + size (splicedUse code f)
       two-more f = rw (use-size code f)
 
--- `copy_wrapped`: a use, and the root that is no use.
-module _ (rs : List Record) (src dst n d code : ℕ) (r : Record) (e : r ≡ getD rs src noRecord) (l : d < r .next / 2) (k : ℕ) (o : k ≡ childCount (kindOf (r .kind))) (x : Bool) (i : x ≡ isNamed k 1 d (r .fields .a)) where
+-- `copy_wrapped`: a leaf is a use of the variable by its bound.
+module _ (d k b : ℕ) where
+  use-named : isNamed k 1 (d + 1) b ≡ true → (k ≡ 0) × (b ≡ d + 1)
+  unfolding isNamed
+  use-named e = elim (ℕ-discrete k 0) [
+    | yes z ↦ (z, eqb-true b (d + 1) (sym (names-one (d + 1) b) ∙ (rw z at e)))
+    | no z ↦ absurd (true≢false (sym e ∙ (rw (ne-eqb k 0 z))))
+  ]
+
+  use-unnamed : k ≡ 0 → isNamed k 1 (d + 1) b ≡ false → b ≢ d + 1
+  unfolding isNamed
+  use-unnamed z e q = true≢false (sym (eq-eqb b (d + 1) q) ∙ sym (names-one (d + 1) b) ∙ (rw z at e))
+
+leaf-use : (d : ℕ) (t : Term) → childCount (rootKind t) ≡ 0 → freeBound t ≡ d + 1 → (f : Fields) × (t ≡ leaf variable f) × (f .a ≡ d)
+unfolding freeBound
+leaf-use d (leaf number f) k b = absurd (omega arith)
+leaf-use d (leaf variable f) k b = (f, refl, omega arith)
+leaf-use d (unary u f t) k b = absurd (omega arith)
+leaf-use d (binary u f t v) k b = absurd (omega arith)
+leaf-use d (ternary u f t s e) k b = absurd (omega arith)
+
+use-wrapped-is : (n code d : ℕ) (f : Fields) → f .a ≡ d → changed (wrappingUnder n code) d (leaf variable f) ≡ splicedUse code f
+unfolding wrappingUnder changed
+use-wrapped-is n code d f q = rw (eq-eqb (f .a) d q)
+
+-- Any other leaf is raised.
+leaf-wrapped : (n code d : ℕ) (t : Term) → childCount (rootKind t) ≡ 0 → freeBound t ≢ d + 1 → (size t ≡ 1) × (changed (wrappingUnder n code) d t ≡ changed (raising n) (d + 1) t)
+unfolding wrappingUnder changed freeBound size
+leaf-wrapped n code d (leaf number f) k b = (refl, refl)
+leaf-wrapped n code d (leaf variable f) k b = (refl, rw (ne-eqb (f .a) d (λ e. b (omega arith))))
+leaf-wrapped n code d (unary u f t) k b = absurd (omega arith)
+leaf-wrapped n code d (binary u f t v) k b = absurd (omega arith)
+leaf-wrapped n code d (ternary u f t s e) k b = absurd (omega arith)
+
+module _ (rs : List Record) (src dst n d code : ℕ) (r : Record) (e : r ≡ getD rs src noRecord) (k : ℕ) (o : k ≡ childCount (kindOf (r .kind))) (x : Bool) (i : x ≡ isNamed k 1 (d + 1) (r .next / 2)) where
+  root-children : (t : Term) → At rs src t → k ≡ childCount (rootKind t)
+  root-children t h = o ∙ ap childCount (read-kind rs src r e t h)
+
   module _ (y : x ≡ true) where
     is-use : (t : Term) → At rs src t → (f : Fields) × (t ≡ leaf variable f) × (changed (wrappingUnder n code) d t ≡ splicedUse code f)
-    unfolding wrappingUnder changed
-    is-use t h = told (rw (← i, y) at (read-spot rs src r e t h 1 d l k o))
-      where
-        told : Spot 1 d t true → (f : Fields) × (t ≡ leaf variable f) × (changed (wrappingUnder n code) d t ≡ splicedUse code f)
-        told (named f p q) = (f, p, rw p (rw (sym (names-one d (f .a)) ∙ q)))
+    is-use t h =
+        let (z, b) = use-named d k (r .next / 2) (sym i ∙ y) in
+        let (f, p, q) = leaf-use d t (sym (root-children t h) ∙ z) (sym (read-bound rs src r e t h) ∙ b) in
+        (f, p, ap (changed (wrappingUnder n code) d) p ∙ use-wrapped-is n code d f q)
 
     pub use-room : CanCopy (Wrapping n code) rs src dst d → RoomForUse rs dst
     use-room h =
@@ -144,6 +183,37 @@ module _ (rs : List Record) (src dst n d code : ℕ) (r : Record) (e : r ≡ get
           let (f, p, q) = is-use t (h .there) in
           rw (ap (λ c. changed c d t) (s .change) ∙ q) (w .does f (read-root rs src r e t (h .there) ∙ ap head p));
     }
+
+  module _ (y : x ≡ false) (z : k ≡ 0) where
+    is-raised : (t : Term) → At rs src t → (size t ≡ 1) × (changed (wrappingUnder n code) d t ≡ changed (raising n) (d + 1) t)
+    is-raised t h = leaf-wrapped n code d t (sym (root-children t h) ∙ z) (λ q. use-unnamed d k (r .next / 2) z (sym i ∙ y) (read-bound rs src r e t h ∙ q))
+
+    raising-of : (lo hi b : ℕ) (c : Change) (t : Term) → Wrapping n code rs lo hi c b → CopyAt c b rs lo hi src dst d t → RaisingAt rs src dst n (d + 1) t
+    raising-of lo hi b c t s h =
+        let (m, q) = is-raised t (h .there) in
+        let f = h .fits in
+        let g = size-some (changed c d t) in
+        record {
+          there = h .there;
+          room = omega (arith, f .room, f .within);
+          apart = ⊎-elim (λ u. inl (omega (arith, f .start))) (λ u. inr (omega (arith, f .room))) (f .outside);
+          small = omega (arith, f .low, s .reach);
+          deep = omega (arith, f .low);
+        }
+
+    pub wrap-leaf-can : CanCopy (Wrapping n code) rs src dst d → CanRaise rs src dst n (d + 1)
+    wrap-leaf-can h = record { tree = h .tree; raises = raising-of (h .lo) (h .hi) (h .reach) (h .change) (h .tree) (h .meant) (h .copy) }
+
+    pub wrap-leaf-does : (rs′ : List Record) → Raises rs rs′ src dst n (d + 1) → Copies (Wrapping n code) rs rs′ src dst d (dst + 1)
+    wrap-leaf-does rs′ w = record {
+      does = λ lo hi b c t s h.
+          let (m, q) = is-raised t (h .there) in
+          let a : changed c d t ≡ changed (raising n) (d + 1) t = ap (λ c. changed c d t) (s .change) ∙ q in
+          rw a (record { records = w .does t (raising-of lo hi b c t s h); end = ap (λ u. dst + u) (sym (size-raised n (d + 1) t ∙ m)) });
+    }
+
+pub wrap-one-fits : (rs : List Record) (src dst n d code : ℕ) → CanCopy (Wrapping n code) rs src dst d → Fits w16 (d + 1)
+wrap-one-fits rs src dst n d code h = omega (arith, h .copy .fits .low)
 
 pub wrap-root-can : (rs : List Record) (src dst n d code : ℕ) (r : Record) → r ≡ getD rs src noRecord → CanCopy (Wrapping n code) rs src dst d → CanWrapRoot rs dst r n d
 wrap-root-can rs src dst n d code r e h =
@@ -169,16 +239,16 @@ pub record Wraps (rs₁ : List Record) (src dst n code d k c : ℕ) (rs : List R
   copying : Copying (Wrapping n code) 1 rs₁ src dst d k rs at to j
 
 pub wrap-starts : (rs rs₁ : List Record) (src dst n d code : ℕ) (r : Record) → MovesRoot (raisedIndex n (d + 1)) rs rs₁ dst r → r ≡ getD rs src noRecord → d < r .next / 2 → (k : ℕ) → k ≡ r .kind
-    → (c : ℕ) → c ≡ childCount (kindOf k) → (x : Bool) → x ≡ isNamed c 1 d (r .fields .a) → x ≡ false → CanCopy (Wrapping n code) rs src dst d → Wraps rs₁ src dst n code d k c rs₁ (src + 1) (dst + 1) 0
-wrap-starts rs rs₁ src dst n d code r w e l k q c o x i y h =
+    → (c : ℕ) → c ≡ childCount (kindOf k) → c ≢ 0 → CanCopy (Wrapping n code) rs src dst d → Wraps rs₁ src dst n code d k c rs₁ (src + 1) (dst + 1) 0
+wrap-starts rs rs₁ src dst n d code r w e l k q c o z h =
     let a : c ≡ childCount (kindOf (r .kind)) = rw q at o in
-    record { count = o; copying = rw q (copy-starts (Wrapping n code) 1 _ (wrapping-sound n code) rs src dst d r e l c a x i y rs₁ w h) }
+    record { count = o; copying = rw q (copy-starts (Wrapping n code) 1 _ (wrapping-sound n code) rs src dst d r e l c a false (named-other c 1 d (r .fields .a) z) refl rs₁ w h) }
 
 pub wrap-ends : (rs rs₁ rs₂ rs₃ : List Record) (src dst n d code end : ℕ) → MarksRoot rs₂ rs₃ dst end → (k c at to j : ℕ) → Wraps rs₁ src dst n code d k c rs₂ at to j → c ≤ j
-    → (r : Record) → MovesRoot (raisedIndex n (d + 1)) rs rs₁ dst r → r ≡ getD rs src noRecord → k ≡ r .kind → d < r .next / 2 → (x : Bool) → x ≡ isNamed c 1 d (r .fields .a) → x ≡ false
+    → (r : Record) → MovesRoot (raisedIndex n (d + 1)) rs rs₁ dst r → r ≡ getD rs src noRecord → k ≡ r .kind → d < r .next / 2 → c ≢ 0
     → Copies (Wrapping n code) rs rs₃ src dst d end
-wrap-ends rs rs₁ rs₂ rs₃ src dst n d code end z k c at to j p m r w e q l x i y =
-    copy-ends (Wrapping n code) 1 _ (wrapping-sound n code) rs src dst d r e l c (rw q at (p .count)) x i y rs₁ w rs₂ at to j (rw q at (p .copying)) m rs₃ end z
+wrap-ends rs rs₁ rs₂ rs₃ src dst n d code end z k c at to j p m r w e q l u =
+    copy-ends (Wrapping n code) 1 _ (wrapping-sound n code) rs src dst d r e l c (rw q at (p .count)) false (named-other c 1 d (r .fields .a) u) refl rs₁ w rs₂ at to j (rw q at (p .copying)) m rs₃ end z
 
 -- A turn of the loop. What the code computes for the child is a premise of its own.
 module _ (rs₁ : List Record) (src dst n code d k c : ℕ) (rs : List Record) (at to j : ℕ) (p : Wraps rs₁ src dst n code d k c rs at to j) where
@@ -210,4 +280,4 @@ wrap-falls s₀ src q g s₁ dst n code d k c s at to j p l y =
     copy-falls (Wrapping n code) 1 _ (wrapping-sound n code) s₁ src dst d k s at to j c (p .copying) (p .count) l s₀ y q g
 
 pub ruleset wrapping-laws =
-    (copy-in, copy-from-fits, use-fits, use-end-fits, use-in, use-put, use-room, use-does, wrap-root-can, wrap-block-can, wrap-block-does, wrap-starts, wrap-ends, wrap-tree, wrap-deep, wrap-can, wrap-next, wrap-rooted)
+    (copy-in, copy-from-fits, use-fits, use-end-fits, use-in, use-put, use-room, use-does, wrap-leaf-can, wrap-leaf-does, wrap-one-fits, wrap-root-can, wrap-block-can, wrap-block-does, wrap-starts, wrap-ends, wrap-tree, wrap-deep, wrap-can, wrap-next, wrap-rooted)

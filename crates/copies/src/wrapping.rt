@@ -2,6 +2,7 @@
 use crate::copying::copy_block;
 use crate::copying::gives_way;
 use crate::copying::put_indexed;
+use crate::raising::copy_raised;
 use crate::raising::raised_field;
 use records::Record;
 use terms::binders_over;
@@ -54,20 +55,26 @@ fn wrap_root(w: &mut [u8], dst: usize, r: Record, n: u16, d: u16)
 }
 
 // Copies the tree at `src` to `dst`, each use of the variable of the binder next to d of its own wrapped in a splice, in which it has the type
-// `code`, and the indices beyond raised by n. A tree without an index that reaches so far is copied as a block. The root's measures are known once
-// its children are copied. Returns the place after the copy.
+// `code`, and the indices beyond raised by n. A use is known by its bound, which is its index and one more; any other leaf is raised by n or by 0. A larger
+// tree without an index that reaches so far is copied as a block. The root's measures are known once its children are copied. Returns the place
+// after the copy.
 pub fn copy_wrapped(w: &mut [u8], src: usize, dst: usize, n: u16, d: u16, code: u16) -> usize
     requires { ⌜ CanCopy (Wrapping n code) (recordsIn (now w)) src dst d ⌝ }
     ensures { λ e. ⌜ Copies (Wrapping n code) (recordsIn (now (w .entry))) (recordsIn (now (w .exit))) src dst d e ⌝ }
 {
     let r = records::get(w, src);
-    if r.next / 2 <= d {
-        return copy_block(w, src, dst, r.first as usize);
-    }
+    let bound = r.next / 2;
     let kind = r.kind;
     let children = kinds::children(kind);
-    if gives_way(children, r.a, d, 1) {
+    if gives_way(children, bound, d + 1, 1) {
         return put_use(w, dst, r, code);
+    }
+    if children == 0 {
+        copy_raised(w, src, dst, n, d + 1);
+        return dst + 1;
+    }
+    if bound <= d {
+        return copy_block(w, src, dst, r.first as usize);
     }
     wrap_root(w, dst, r, n, d);
     let mut at = src + 1;

@@ -10,12 +10,13 @@ use borrow.Fn.PlainCycle.{Measures, is, falls, and}
 use Rattle.copies.proofs.wrapping.copy_wrapped.Reads as copy-wrapped
 use Rattle.copies.proofs.wrapping.copy_wrapped.Kinds as copy-wrapped-kinds
 use Rattle.copies.proofs.wrapping.+copy_wrapped.Lts-copy_wrapped as copy-wrapped-lts
-use Rattle.records.proofs.get.Reads as get-reads
-use Rattle.kinds.proofs.children.Reads as children-reads
 use Rattle.copies.proofs.copying.copy_block.Reads as copy-block-reads
 use Rattle.copies.proofs.copying.gives_way.Reads as gives-way-reads
+use Rattle.copies.proofs.raising.copy_raised.Reads as copy-raised-reads
 use Rattle.copies.proofs.wrapping.put_use.Reads as put-use-reads
 use Rattle.copies.proofs.wrapping.wrap_root.Reads as wrap-root-reads
+use Rattle.kinds.proofs.children.Reads as children-reads
+use Rattle.records.proofs.get.Reads as get-reads
 use Rattle.terms.proofs.binders_over.Reads as binders-over-reads
 use Rattle.terms.proofs.mark_root.Reads as mark-root-reads
 use Rattle.terms.proofs.skip.Reads as skip-reads
@@ -35,14 +36,16 @@ abbrev copy-wrapped-claims : ℕ → copy-wrapped-lts.Claims
 copy-wrapped-claims t = (
   get-reads.Asked,
   get-reads.Learnt,
-  copy-block-reads.Asked,
-  copy-block-reads.Learnt,
   children-reads.Asked,
   children-reads.Learnt,
   gives-way-reads.Asked,
   gives-way-reads.Learnt,
   put-use-reads.Asked,
   put-use-reads.Learnt,
+  copy-raised-reads.Asked,
+  copy-raised-reads.Learnt,
+  copy-block-reads.Asked,
+  copy-block-reads.Learnt,
   wrap-root-reads.Asked,
   wrap-root-reads.Learnt,
   skip-reads.Asked,
@@ -56,24 +59,30 @@ copy-wrapped-claims t = (
 )
 
 abbrev copy-wrapped-Inv-loop : copy-wrapped-lts.InvT-loop
-copy-wrapped-Inv-loop w₀ src dst n d code kind children at₀ to₀ j₀ w at to j = (length w ≡ length w₀) × Wraps (recordsIn w₀) src dst n code d kind children (recordsIn w) at to j
+copy-wrapped-Inv-loop w₀ src dst n d code bound kind children at₀ to₀ j₀ w at to j = (length w ≡ length w₀) × Wraps (recordsIn w₀) src dst n code d kind children (recordsIn w) at to j
 
 abbrev copy-wrapped-μ-loop : copy-wrapped-lts.MeasureT-loop
-copy-wrapped-μ-loop w₀ src dst n d code kind children at₀ to₀ j₀ w at to j = children - j
+copy-wrapped-μ-loop w₀ src dst n d code bound kind children at₀ to₀ j₀ w at to j = children - j
 
 pub +copy-wrapped-spec : {M : Type 1} → statement M
 +copy-wrapped-spec = close μ-copy-wrapped
     (λ t. copy-wrapped-lts.spec (copy-wrapped-claims t) (copy-wrapped-at t) copy-wrapped.Post copy-wrapped-Inv-loop copy-wrapped-μ-loop
     (λ c κs. search (wrapping-laws, needs))  -- get-requires
-    (λ c. search (wrapping-laws, needs))  -- cast-copy-block
-    (λ c κs. search (wrapping-laws, needs))  -- copy-block-requires
-    (λ c. search (wrapping-laws, needs))  -- same-length
-    (λ c. search (wrapping-laws, needs))  -- returns
     (λ c κs. search (wrapping-laws, needs))  -- children-requires
+    (λ c. search (wrapping-laws, needs))  -- add-gives-way
     (λ c κs. search (wrapping-laws, needs))  -- gives-way-requires
     (λ c κs. search (wrapping-laws, needs))  -- put-use-requires
+    (λ c. search (wrapping-laws, needs))  -- same-length
+    (λ c. search (wrapping-laws, needs))  -- returns
+    (λ c. search (wrapping-laws, needs))  -- add-copy-raised
+    (λ c κs. search (wrapping-laws, needs))  -- copy-raised-requires
+    (λ c. search (wrapping-laws, needs))  -- add-result
     (λ c. search (wrapping-laws, needs))  -- same-length-2
     (λ c. search (wrapping-laws, needs))  -- returns-2
+    (λ c. search (wrapping-laws, needs))  -- cast-copy-block
+    (λ c κs. search (wrapping-laws, needs))  -- copy-block-requires
+    (λ c. search (wrapping-laws, needs))  -- same-length-3
+    (λ c. search (wrapping-laws, needs))  -- returns-3
     (λ c κs. search (wrapping-laws, needs))  -- wrap-root-requires
     (λ c. search (wrapping-laws, needs))  -- add-at
     (λ c. search (wrapping-laws, needs))  -- add-to
@@ -86,6 +95,6 @@ pub +copy-wrapped-spec : {M : Type 1} → statement M
     (λ c. search (wrapping-laws, needs))  -- loop-less
     (λ c. search (wrapping-laws, needs))  -- loop-again
     (λ c κs. search (wrapping-laws, needs))  -- mark-root-requires
-    (λ c. search (wrapping-laws, needs))  -- same-length-3
-    (λ c. search (wrapping-laws, needs))  -- returns-3
+    (λ c. search (wrapping-laws, needs))  -- same-length-4
+    (λ c. search (wrapping-laws, needs))  -- returns-4
     )
