@@ -13,7 +13,7 @@ pub struct Refusal {
     pub place: u32,
 }
 
-/// What check says of a program that is passed: `root_type` is an entry of its table.
+/// What check says of a program that is passed.
 #[derive(Clone, Copy, Debug, PartialEq, Eq)]
 pub struct Passed {
     pub root_type: u32,
@@ -35,8 +35,8 @@ pub enum Ending {
     Full,
 }
 
-/// What an accepted run answers: `written` is the length of the program at the start of the output, `root_type` an entry of its table, which has the types
-/// that it needs in order of use, and `replaced` how many variable records gave way to what replaced them, in all the steps.
+/// What an accepted run answers: `written` is the length of the program at the start of the output, and `replaced` how many variable records gave way
+/// to what replaced them, in all the steps.
 #[derive(Clone, Copy, Debug, PartialEq, Eq)]
 pub struct Ran {
     pub ending: Ending,

@@ -1,6 +1,5 @@
 /* Compares check's answer with the first line of a right listing, for each NAME.bin given (beside it NAME.txt).
- * NAME.bin is 4 bytes of fuel and a program. A listing begins with `refused`, number and place, or with an ending, steps, root type and records. Its root
- * type is a number in the written table; check's is the one in the program's own, which the program's first record has. */
+ * NAME.bin is 4 bytes of fuel and a program. A listing begins with `refused`, number and place, or with an ending, steps, root type and records. */
 #include <stdio.h>
 #include <stdlib.h>
 #include <string.h>
@@ -28,8 +27,6 @@ static void first_line(const char *bin, char *line, int most) {
     fclose(f);
 }
 
-static unsigned get16(const unsigned char *at) { return at[0] + 256u * at[1]; }
-
 static int agrees(const char *line, struct muntinyarrow_check_answer a, const unsigned char *program, size_t n) {
     unsigned number, place, steps, type, records;
     char word[32];
@@ -37,8 +34,7 @@ static int agrees(const char *line, struct muntinyarrow_check_answer a, const un
         return a.number == number && a.place == place && a.root_type == 0 && a.records == 0;
     if (sscanf(line, "%31s %u %u %u", word, &steps, &type, &records) != 4 || n < 4)
         return 0;
-    const unsigned char *root = program + 4 + 6 * get16(program);
-    return a.number == 0 && a.place == 0 && a.root_type == get16(root + 2) && a.records == get16(program + 2);
+    return a.number == 0 && a.place == 0 && a.root_type == type && a.records == program[2] + 256u * program[3];
 }
 
 int main(int argc, char **argv) {

@@ -175,16 +175,11 @@ pub fn stated_records(program: &[u8]) -> usize {
     usize::from(u16::from_le_bytes([program[2], program[3]]))
 }
 
-/// The type table that a program states.
-pub fn stated_table(program: &[u8]) -> &[u8] {
-    let types = usize::from(u16::from_le_bytes([program[0], program[1]]));
-    &program[4..4 + 6 * types]
-}
-
 /// A program without its types, under the first so many entries of its table, which have to hold the types of its binders.
 pub fn untyped(program: &[u8], types: u16) -> Vec<u8> {
-    let table = stated_table(program);
-    let mut records = program[4 + table.len()..].to_vec();
+    let stated_types = usize::from(u16::from_le_bytes([program[0], program[1]]));
+    let (table, records) = program[4..].split_at(6 * stated_types);
+    let mut records = records.to_vec();
     records.chunks_exact_mut(16).for_each(|record| record[2..4].fill(0));
     [&types.to_le_bytes()[..], &program[2..4], &table[..6 * usize::from(types)], &records].concat()
 }

@@ -1,6 +1,6 @@
 //! Trees of records, and their layout as programs: in preorder, or numbered at random with every link going up.
 use crate::random::Random;
-use crate::reference::format::{Program, Record, Type, HEADER_BYTES, RECORD_BYTES, TYPE_BYTES};
+use crate::reference::format::{Record, Type, HEADER_BYTES, RECORD_BYTES, TYPE_BYTES};
 
 /// A record without links, and its children.
 #[derive(Clone)]
@@ -29,16 +29,17 @@ pub struct Draft {
 impl Draft {
     /// Lays out a tree in preorder, or in another order where `random` is given.
     pub fn new(types: &[Type], tree: &Tree, random: Option<&mut Random>) -> Draft {
+        let fields = |ty: &Type| match *ty {
+            Type::Nat => [1, 0, 0],
+            Type::Function(a, b) => [2, a, b],
+            Type::Code(a) => [3, a, 0],
+        };
         let mut records = Vec::new();
         push_preorder(tree, false, &mut records);
         if let Some(random) = random {
             records = renumbered(&records, random);
         }
-        Draft { types: types.iter().map(|ty| ty.fields()).collect(), records }
-    }
-
-    pub fn of_program(program: Program) -> Draft {
-        Draft { types: program.types.0.iter().map(|ty| ty.fields()).collect(), records: program.records }
+        Draft { types: types.iter().map(fields).collect(), records }
     }
 
     pub fn bytes(&self) -> Vec<u8> {

@@ -4,7 +4,7 @@ mod layout;
 mod loose;
 mod matches;
 mod slips;
-pub mod tables;
+mod tables;
 mod terms;
 mod types;
 pub mod untyped;

@@ -1,5 +1,4 @@
 //! Random type tables, and what term generation asks of a table.
-use super::tables::shuffled_places;
 use crate::random::Random;
 use crate::reference::format::{Type, Types, MAX_TYPES};
 use std::collections::HashMap;
@@ -199,12 +198,21 @@ impl Draft {
 
 /// The same types in a random order in which parts still come earlier.
 fn shuffled(types: &[Type], random: &mut Random) -> Vec<Type> {
-    let entries: Vec<[u16; 3]> = types.iter().map(|ty| ty.fields()).collect();
-    let mut numbers = vec![0; types.len() + 1];
+    let mut numbers = vec![0_u16; types.len()];
     let mut order = Vec::with_capacity(types.len());
-    for place in shuffled_places(&entries, random) {
-        order.push(types[place].with_parts(|part| numbers[usize::from(part)]));
-        numbers[place + 1] = order.len() as u16;
+    let mut waiting: Vec<usize> = (0..types.len()).collect();
+    while !waiting.is_empty() {
+        let chosen = random.below(waiting.len());
+        let number = |part: u16| Some(numbers[usize::from(part) - 1]).filter(|&number| number != 0);
+        let renumbered = match types[waiting[chosen]] {
+            Type::Nat => Some(Type::Nat),
+            Type::Function(a, b) => number(a).zip(number(b)).map(|(a, b)| Type::Function(a, b)),
+            Type::Code(a) => number(a).map(Type::Code),
+        };
+        if let Some(ty) = renumbered {
+            order.push(ty);
+            numbers[waiting.swap_remove(chosen)] = order.len() as u16;
+        }
     }
     order
 }

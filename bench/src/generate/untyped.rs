@@ -2,7 +2,8 @@
 use super::layout::Draft;
 use super::{damage, loose, tables};
 use crate::random::Random;
-use crate::reference::{self, format::MAX_TYPES};
+use crate::reference::format::MAX_TYPES;
+use crate::reference::{self, OUTPUT, WORK};
 
 /// A program of any sort.
 pub fn program(random: &mut Random) -> Vec<u8> {
@@ -70,14 +71,18 @@ fn filled_length(draft: &Draft, random: &mut Random) -> usize {
 
 /// How many entries infer appends to the table; 0 where it refuses the program.
 fn missing(draft: &Draft) -> usize {
-    reference::typed(&draft.bytes()).map_or(0, |typed| typed.types.0.len() - draft.types.len())
+    let mut output = [0; OUTPUT];
+    match reference::infer(&draft.bytes(), &mut output, &mut [0; WORK]) {
+        Ok(_) => usize::from(u16::from_le_bytes([output[0], output[1]])) - draft.types.len(),
+        Err(_) => 0,
+    }
 }
 
 #[cfg(test)]
 mod tests {
     use super::*;
     use crate::reference::format::{kind, NAT};
-    use crate::reference::{Refusal, OUTPUT, WORK};
+    use crate::reference::Refusal;
 
     fn infer(draft: &Draft) -> Result<usize, Refusal> {
         reference::infer(&draft.bytes(), &mut [0; OUTPUT], &mut [0; WORK]).map(|inferred| inferred.written)

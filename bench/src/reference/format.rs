@@ -33,26 +33,6 @@ pub enum Type {
     Code(u16),
 }
 
-impl Type {
-    /// The fields of its entry: kind, a and b.
-    pub fn fields(self) -> [u16; 3] {
-        match self {
-            Type::Nat => [1, 0, 0],
-            Type::Function(a, b) => [2, a, b],
-            Type::Code(a) => [3, a, 0],
-        }
-    }
-
-    /// The same form over other parts, which are asked for from left to right.
-    pub fn with_parts(self, mut other: impl FnMut(u16) -> u16) -> Type {
-        match self {
-            Type::Nat => Type::Nat,
-            Type::Function(a, b) => Type::Function(other(a), other(b)),
-            Type::Code(a) => Type::Code(other(a)),
-        }
-    }
-}
-
 /// The number of Nat in every table: the first entry has no earlier ones for its parts.
 pub const NAT: u16 = 1;
 
@@ -102,13 +82,6 @@ impl Record {
             place.copy_from_slice(&field.to_le_bytes());
         }
         bytes[12..RECORD_BYTES].copy_from_slice(&self.value.to_le_bytes());
-    }
-
-    /// The fields that name types: "type, then a and b where they name types".
-    pub fn named_types(&mut self) -> impl Iterator<Item = &mut u16> {
-        let uses = field_uses(self.kind).into_iter().flatten();
-        let named = uses.zip([&mut self.a, &mut self.b]).filter_map(|(used, field)| matches!(used, Field::Type).then_some(field));
-        std::iter::once(&mut self.ty).chain(named)
     }
 }
 
@@ -165,17 +138,22 @@ pub fn parse(bytes: &[u8], type_fields: TypeFields) -> Result<Program, Refusal> 
 }
 
 /// The length of the counts and the type table.
-fn head_bytes(types: &Types) -> usize {
+pub fn head_bytes(types: &Types) -> usize {
     HEADER_BYTES + TYPE_BYTES * types.0.len()
 }
 
 /// Writes the counts and the type table of a program of so many records.
-fn write_head(types: &Types, records: usize, head: &mut [u8]) {
+pub fn write_head(types: &Types, records: usize, head: &mut [u8]) {
     let (counts, entries) = head.split_at_mut(HEADER_BYTES);
     counts[..2].copy_from_slice(&(types.0.len() as u16).to_le_bytes());
     counts[2..].copy_from_slice(&(records as u16).to_le_bytes());
     for (entry, ty) in entries.chunks_exact_mut(TYPE_BYTES).zip(&types.0) {
-        for (place, field) in entry.chunks_exact_mut(2).zip(ty.fields()) {
+        let fields = match *ty {
+            Type::Nat => [1, 0, 0],
+            Type::Function(a, b) => [2, a, b],
+            Type::Code(a) => [3, a, 0],
+        };
+        for (place, field) in entry.chunks_exact_mut(2).zip(fields) {
             place.copy_from_slice(&field.to_le_bytes());
         }
     }

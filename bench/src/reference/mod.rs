@@ -1,9 +1,8 @@
-//! An engine for document 01, written from its text: an owned tree that is rewritten in place. Infer, the total of the replaced variables and
-//! the order of written tables are from document 02's N1, N2 and N4.
+//! An engine for document 01, written from its text: an owned tree that is rewritten in place. Infer and the total of the replaced
+//! variables are from document 02's N1 and N2.
 pub mod format;
 mod inference;
 pub mod judging;
-mod order;
 mod run;
 mod steps;
 mod substitution;
@@ -15,7 +14,6 @@ mod typing;
 /// The form of an answer, and no more, is shared with the engine that this one is compared with.
 pub use crate::muntinyarrow::{Ending, Inferred, Passed, Ran, Refusal};
 use format::{Program, TypeFields};
-use order::in_order_of_use;
 
 /// The buffers of infer and run have at least these lengths.
 pub const OUTPUT: usize = 34_308;
@@ -27,21 +25,15 @@ pub fn check(program: &[u8]) -> Result<Passed, Refusal> {
     Ok(Passed { root_type: program.record(1).ty.into(), records: program.records.len() as u32 })
 }
 
-/// Types a program whose type fields are 0 and writes it in preorder, its table in order of use. Of the work buffer only the length matters.
+/// Types a program whose type fields are 0 and writes it in preorder. Of the work buffer only the length matters.
 pub fn infer(program: &[u8], output: &mut [u8], work: &mut [u8]) -> Result<Inferred, Refusal> {
     buffers_fit(output, work)?;
-    let typed = typed(program)?;
-    let ordered = in_order_of_use(&typed.types, typed.records);
-    Ok(Inferred { root_type: ordered.record(1).ty.into(), written: ordered.write(output) })
-}
-
-/// A program whose type fields are 0 with its types, in preorder, under its own table and the entries that they need besides: refusals 3 to 14.
-pub fn typed(program: &[u8]) -> Result<Program, Refusal> {
     let program = format::parse(program, TypeFields::Zeros)?;
-    inference::infer(&program)
+    let typed = inference::infer(&program)?;
+    Ok(Inferred { root_type: typed.record(1).ty.into(), written: typed.write(output) })
 }
 
-/// Runs a program with the fuel and writes the last term, its table in order of use. Of the work buffer only the length matters.
+/// Runs a program with the fuel and writes the last term. Of the work buffer only the length matters.
 pub fn run(program: &[u8], fuel: u32, output: &mut [u8], work: &mut [u8]) -> Result<Ran, Refusal> {
     buffers_fit(output, work)?;
     let program = accept(program)?;

@@ -1,6 +1,5 @@
 //! The run: evaluation at level 0, generation at level 1, and the writing of the last term.
-use super::format::{child_count, kind, Program, Record, Types};
-use super::order::in_order_of_use;
+use super::format::{head_bytes, kind, write_head, Program, Record, Types, RECORD_BYTES};
 use super::steps;
 use super::term::{Node, Pattern, Term};
 use super::{Ending, Ran};
@@ -30,8 +29,8 @@ pub fn run(program: &Program, fuel: u32, output: &mut [u8]) -> Ran {
         Err(Stop::Spent) => Ending::Spent,
         Err(Stop::Full) => Ending::Full,
     };
-    let last = in_order_of_use(&program.types, preorder(&term));
-    Ran { ending, steps: machine.steps, root_type: last.record(1).ty.into(), written: last.write(output), replaced: machine.replaced }
+    let written = write_program(&program.types, &term, machine.size, output);
+    Ran { ending, steps: machine.steps, root_type: term.ty.into(), written, replaced: machine.replaced }
 }
 
 impl Machine<'_> {
@@ -82,26 +81,31 @@ impl Machine<'_> {
     }
 }
 
-/// The records of a term, in preorder.
-pub fn preorder(term: &Term) -> Vec<Record> {
-    let mut records = Vec::new();
-    push_tree(term, false, &mut records);
-    records
+/// Writes a term of `size` records in preorder, after its type table; gives the length.
+pub fn write_program(types: &Types, term: &Term, size: usize, output: &mut [u8]) -> usize {
+    let (head, records) = output.split_at_mut(head_bytes(types));
+    write_head(types, size, head);
+    write_tree(term, 1, false, records);
+    head.len() + RECORD_BYTES * size
 }
 
-/// Adds the records of a tree.
-fn push_tree(term: &Term, has_sibling: bool, records: &mut Vec<Record>) {
-    let index = records.len();
-    let own = own_fields(term);
-    records.push(own);
-    let mut left = child_count(own.kind);
+/// Writes a tree whose root has this number; gives the number after its last record.
+fn write_tree(term: &Term, number: u16, has_sibling: bool, records: &mut [u8]) -> u16 {
+    let mut children = [None; 3];
+    let mut count = 0;
     term.each_child(|child, _| {
-        left -= 1;
-        push_tree(child, left > 0, records);
+        children[count] = Some(child);
+        count += 1;
     });
-    let end = records.len() as u16;
-    records[index].first = if child_count(own.kind) > 0 { index as u16 + 2 } else { 0 };
-    records[index].next = if has_sibling { end + 1 } else { 0 };
+    let mut end = number + 1;
+    for (position, child) in children.iter().flatten().enumerate() {
+        end = write_tree(child, end, position + 1 < count, records);
+    }
+    let first = if count > 0 { number + 1 } else { 0 };
+    let next = if has_sibling { end } else { 0 };
+    let start = RECORD_BYTES * (usize::from(number) - 1);
+    Record { first, next, ..own_fields(term) }.write(&mut records[start..start + RECORD_BYTES]);
+    end
 }
 
 /// A record's fields without its links.

@@ -1,7 +1,6 @@
 //! The bench sheet K1 to K11, the small inputs of the refusals, and infer: what it appends and writes, and what it names first.
 use super::format::{kind, Program, Record, Type, Types};
-use super::order::in_order_of_use;
-use super::run::preorder;
+use super::run::write_program;
 use super::term::{Application, Match, Node, Pattern, Term};
 use super::{check, infer, run, Ending, Inferred, Ran, Refusal, OUTPUT, WORK};
 use crate::programs::untyped;
@@ -51,25 +50,11 @@ fn matching(pattern: Pattern, code: Term, success: Term, failure: Term) -> Term 
     Term::new(success.ty, Node::Match(Box::new(Match { pattern, code, success, failure })))
 }
 
-fn bytes(program: &Program) -> Vec<u8> {
+fn program(term: &Term) -> Vec<u8> {
     let mut bytes = vec![0; OUTPUT];
-    let length = program.write(&mut bytes);
+    let length = write_program(&types(), term, term.size(), &mut bytes);
     bytes.truncate(length);
     bytes
-}
-
-/// The program of a term, under all of the types.
-fn program(term: &Term) -> Vec<u8> {
-    bytes(&Program { types: types(), records: preorder(term) })
-}
-
-/// What is written for a term.
-fn written(term: &Term) -> Vec<u8> {
-    bytes(&in_order_of_use(&types(), preorder(term)))
-}
-
-fn root_type(program: &[u8]) -> u32 {
-    check(program).expect("a passed program").root_type
 }
 
 fn run_term(term: &Term, fuel: u32) -> (Ran, Vec<u8>) {
@@ -82,8 +67,8 @@ fn run_term(term: &Term, fuel: u32) -> (Ran, Vec<u8>) {
 /// The steps, and the variables that give way in them.
 fn expect(term: &Term, fuel: u32, ending: Ending, (steps, replaced): (u32, u64), last: &Term) {
     let (ran, output) = run_term(term, fuel);
-    assert_eq!((ran.ending, ran.steps, ran.replaced, ran.root_type), (ending, steps, replaced, root_type(&output)));
-    assert_eq!(output, written(last));
+    assert_eq!((ran.ending, ran.steps, ran.replaced, ran.root_type), (ending, steps, replaced, term.ty.into()));
+    assert_eq!(output, program(last));
 }
 
 #[test]
@@ -181,7 +166,11 @@ fn small_inputs_of_the_refusals() {
 /// A program without types, by the table and each record's kind, a, first and next.
 fn untyped_file(types: &[Type], records: &[[u16; 4]]) -> Vec<u8> {
     let record = |&[kind, a, first, next]: &[u16; 4]| Record { kind, a, first, next, ..Record::default() };
-    bytes(&Program { types: Types(types.to_vec()), records: records.iter().map(record).collect() })
+    let program = Program { types: Types(types.to_vec()), records: records.iter().map(record).collect() };
+    let mut bytes = vec![0; OUTPUT];
+    let length = program.write(&mut bytes);
+    bytes.truncate(length);
+    bytes
 }
 
 /// What infer answers and writes.
@@ -208,27 +197,28 @@ fn infer_gives_cleared_types_back() {
     let success = apply(CODE, variable(CODE_TO_CODE, 0), Term::quote(CODE, number(7)));
     let matched = matching(Pattern::Function(CODE_TO_CODE), code, success, Term::quote(CODE, number(0)));
     for term in [number(3), fix(identity()), matched] {
-        let (answer, typed) = inferred(&untyped(&program(&term), types().0.len() as u16)).expect("it has types");
-        assert_eq!(typed, written(&term));
-        assert_eq!(answer.root_type, root_type(&typed));
+        let typed = program(&term);
+        let (answer, written) = inferred(&untyped(&typed, types().0.len() as u16)).expect("it has types");
+        assert_eq!((answer.root_type, answer.written), (term.ty.into(), typed.len()));
+        assert_eq!(written, typed);
     }
 }
 
 #[test]
-fn infer_writes_missing_types_in_order_of_use() {
+fn infer_appends_missing_types_in_the_order_of_typing() {
     let applied = apply(NAT, function(FN_TO_NAT, FN, number(1)), identity());
     let term = Term::quote(CODE, applied);
-    let (answer, output) = inferred(&untyped(&program(&term), FN)).expect("it has types");
-    let typed = check(&output).expect("it passes");
-    assert_eq!((answer.root_type, typed.root_type, typed.records), (2, 2, 6));
-    assert_eq!(output[..4 + 6 * 4], [4, 0, 6, 0, 1, 0, 0, 0, 0, 0, 3, 0, 1, 0, 0, 0, 2, 0, 1, 0, 1, 0, 2, 0, 3, 0, 1, 0]);
+    let (answer, written) = inferred(&untyped(&program(&term), FN)).expect("it has types");
+    let typed = check(&written).expect("it passes");
+    assert_eq!((answer.root_type, typed.root_type, typed.records), (4, 4, 6));
+    assert_eq!(written[..4 + 6 * 4], [4, 0, 6, 0, 1, 0, 0, 0, 0, 0, 2, 0, 1, 0, 1, 0, 2, 0, 2, 0, 1, 0, 3, 0, 1, 0, 0, 0]);
 }
 
 #[test]
 fn infer_writes_in_preorder_and_names_the_files_record() {
     let application = [[kind::APPLICATION, 0, 2, 0], [kind::FUNCTION, NAT, 4, 3], [kind::NUMBER, 0, 0, 0], [kind::VARIABLE, 0, 0, 0]];
-    let (_, output) = inferred(&untyped_file(&[Type::Nat], &application)).expect("it has types");
-    assert_eq!(output, [&[2, 0, 4, 0, 1, 0, 0, 0, 0, 0, 2, 0, 1, 0, 1, 0][..], &program(&apply(NAT, identity(), number(0)))[4 + 6 * 7..]].concat());
+    let (_, written) = inferred(&untyped_file(&[Type::Nat], &application)).expect("it has types");
+    assert_eq!(written, [&[2, 0, 4, 0, 1, 0, 0, 0, 0, 0, 2, 0, 1, 0, 1, 0][..], &program(&apply(NAT, identity(), number(0)))[4 + 6 * 7..]].concat());
     let mut free = application;
     free[3][1] = 1;
     assert_eq!(refused(&[Type::Nat], &free), Some((10, 4)));
@@ -270,7 +260,7 @@ fn infer_counts_unused_entries_and_names_12_before_14() {
     let table = full_table();
     let quote = [[kind::QUOTE, 0, 2, 0], [kind::NUMBER, 0, 0, 0]];
     assert_eq!(refused(&table, &quote), Some((14, 1)));
-    assert_eq!(inferred(&untyped_file(&table[..255], &quote)).map(|(answer, _)| (answer.root_type, answer.written)), Ok((2, 4 + 6 * 2 + 16 * 2)));
+    assert_eq!(inferred(&untyped_file(&table[..255], &quote)).map(|(answer, _)| (answer.root_type, answer.written)), Ok((256, OUTPUT - 16 * 2_046)));
     let lift_of_function = [[kind::LIFT, 0, 2, 0], [kind::FUNCTION, NAT, 3, 0], [kind::VARIABLE, 0, 0, 0]];
     assert_eq!(refused(&table, &lift_of_function), Some((12, 1)));
 }

@@ -67,6 +67,7 @@ module _ (p out work table given : List ℕ) (h : CanTypeWith p out work table g
         is = sym inferred_is ∙ done.is;
         few = done.few;
         entries = same ∙ all ∙ h.entries;
+        type = done.type;
         room = omega (arith, length-append gs (drop R given), long, eR);
         types = ap (λ n. take n (gs ++ drop R given)) (sym eR) ∙ take_at gs (drop R given) R long ∙ done.types;
       }

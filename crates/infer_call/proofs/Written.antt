@@ -11,10 +11,7 @@ use Rattle.rules.specs.Editions.{first_edition}
 use Rattle.rules.specs.Types.{Table}
 use Rattle.rules.specs.FieldUses.{omitted}
 use Rattle.rules.specs.Format.{most_types, type_count, record_count, table_of, records_of}
-use Rattle.rules.specs.Terms.{type_of}
-use Rattle.rules.specs.Links.{root_tree}
-use Rattle.rules.specs.Order.{written_term}
-use Rattle.rules.specs.Run.{output}
+use Rattle.rules.specs.Links.{root_tree, written}
 use Rattle.rules.specs.Meets.{MeetsLayout}
 use Rattle.rules.proofs.Meaning.{types_counted, records_counted}
 use Rattle.inference.specs.Inference.{filled}
@@ -27,8 +24,7 @@ use Rattle.records.proofs.Entries.{entries_length, entries_front}
 use Rattle.records.proofs.Program.{layout_types, layout_count, layout_end, layout_records_slice}
 use Rattle.records.proofs.Records.{records_length}
 use Rattle.terms.proofs.Loaded.{form_linked}
-use Rattle.numbering.specs.declared.Ordered.{Ordered}
-use Rattle.numbering.specs.InOrder.{WroteInOrder}
+use Rattle.writing.specs.Program.{WroteProgram}
 use Rattle.filling.specs.declared.Progress.{Progress}
 use Rattle.retyping.specs.Retyping.{TypedFits, CanWriteTyped, WritesTyped}
 use Rattle.infer_call.specs.Answers.{CanWriteFilled, Types}
@@ -58,9 +54,6 @@ module _ (p out work table given : List ℕ) (done : Progress) (h : CanWriteFill
   pub filled_long : 6 * done.types ≡ length (take (6 * done.types) table)
   filled_long = sym (length-take-le (6 * done.types) table filled_fits)
 
-  table_is : entries_in (take (6 * done.types) table) ≡ A
-  table_is = entries_front table done.types filled_fits
-
   module _ (T R : ℕ) (eT : T ≡ type_count p) (eR : R ≡ record_count p) where
     pub filled_end : 4 + 6 * T ≤ length p
     filled_end = layout_end omitted first_edition p m T eT
@@ -80,8 +73,8 @@ module _ (p out work table given : List ℕ) (done : Progress) (h : CanWriteFill
         let f = answered.filling in
         let counted : length A ≡ done.types = length-take-le done.types (entries_in table) (omega (arith, buffer, h.few)) in
         record {
-          good = rw table_is f.entries;
-          typed = rw table_is f.typed;
+          ruled = A;
+          typed = f.typed;
           back = f.back ∙ ap root_tree (sym rs_are);
           given = sym h.types ∙ ap (λ n. take n given) (sym eR);
           linked = rw rs_are (form_linked omitted first_edition (omega arith) (table_of p) (records_of p) m.form);
@@ -99,17 +92,20 @@ module _ (p out work table given : List ℕ) (done : Progress) (h : CanWriteFill
     pub write_asked : CanWriteTyped (records_in (take (length p - (4 + 6 * T)) (drop (4 + 6 * T) p))) R (take R given) (take (6 * done.types) table) done.types (records_in work) out
     write_asked = record { tree = h.term; can = fits }
 
-    module _ (out' : List ℕ) (n : Ordered)
+    module _ (out' : List ℕ) (n : ℕ)
         (writes : WritesTyped (records_in (take (length p - (4 + 6 * T)) (drop (4 + 6 * T) p))) R (take R given) (take (6 * done.types) table) done.types (records_in work) out out' n) where
-      wrote : WroteInOrder (take (6 * done.types) table) done.types R out out' h.term n
+      wrote : WroteProgram (take (6 * done.types) table) done.types R out out' h.term n
       wrote = writes.does h.term fits
 
-      pub length_short : Fits w32 n.length
-      length_short = omega (arith, wrote.short, h.few, m.counts.1.0, eR)
+      pub length_short : Fits w32 n
+      length_short = omega (arith, wrote.long, h.few, m.counts.1.0, eR)
 
-      pub type_written_lem : (work' : List ℕ) → Types p out out' work work' (record { number = 0; place = 0; root_type = n.root; written = n.length })
+      table_is : entries_in (take (6 * done.types) table) ≡ A
+      table_is = entries_front table done.types filled_fits
+
+      pub type_written_lem : (work' : List ℕ) → Types p out out' work work' (record { number = 0; place = 0; root_type = done.ty; written = n })
       type_written_lem work' = record {
-        answer = (λ i. record { number = 0; place = 0; root_type = (wrote.root ∙ ap (λ t. type_of (written_term t h.term)) table_is) i; written = (wrote.end ∙ ap (λ t. length (output t h.term)) table_is) i }) ∙ ap answer_of (sym h.is);
+        answer = (λ i. record { number = 0; place = 0; root_type = h.type i; written = (wrote.end ∙ ap (λ t. length (written t h.term)) table_is) i }) ∙ ap answer_of (sym h.is);
         output = wrote.bytes ∙ ap (λ t. output_of (filled t h.term) out) table_is ∙ ap (λ o. output_of o out) (sym h.is);
         faulted = λ q e. let z : ◌≡◌ {A = ℕ} 0 1 = cc (sym h.is ∙ e) in absurd (omega arith);
       }

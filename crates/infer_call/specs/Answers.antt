@@ -1,7 +1,7 @@
 -- The answer of infer as document 02's, field by field, and what infer ensures.
 use Rattle.std.specs.Prelude.{ℕ, suc, ◌*◌, ◌≤◌, List, ◌≡◌, length, take, drop}
 use Rattle.rules.specs.Editions.{first_edition}
-use Rattle.rules.specs.Terms.{Term}
+use Rattle.rules.specs.Terms.{Term, type_of}
 use Rattle.rules.specs.Types.{Table}
 use Rattle.rules.specs.FieldUses.{omitted}
 use Rattle.rules.specs.Format.{most_types, most_records, record_count}
@@ -39,6 +39,7 @@ pub record CanWriteFilled (program out work table given : List ℕ) (done : Prog
   pub is : inference first_edition program ≡ filled (take done.types (entries_in table)) term
   pub few : done.types ≤ most_types
   pub entries : length table ≡ 6 * suc most_types
+  pub type : done.ty ≡ type_of term
   pub room : record_count program ≤ length given
   pub types : take (record_count program) given ≡ types_of term
 
@@ -50,7 +51,7 @@ pub record Types (program out out' work work' : List ℕ) (r : InferAnswer) : Ty
 
 -- What infer ensures for the first edition, of the program and the buffers before the call, its answer, and the buffers after it. The answer and every byte of
 -- the output buffer are the definitions'. Of the work buffer, the first 65,536 bytes after an accepted call are free, which is the sole freedom; a refused
--- call changes nothing. What is written for an accepted program is a filling of it, in order of use, that passes.
+-- call changes nothing. What is written for an accepted program is a filling of it that passes.
 pub record Inferred (program out work : List ℕ) (r : InferAnswer) (out' work' : List ℕ) : Type 0 where
   pub answer : infer_meant r ≡ infer_answer first_edition program (length out) (length work)
   pub output : out' ≡ infer_output first_edition program out (length work)

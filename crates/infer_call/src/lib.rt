@@ -63,8 +63,8 @@ fn write_filled(
     InferAnswer {
         number: 0,
         place: 0,
-        root_type: written.root as u32,
-        written: written.length as u32,
+        root_type: done.ty as u32,
+        written: written as u32,
     }
 }
 

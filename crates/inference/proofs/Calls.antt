@@ -19,18 +19,13 @@ use Rattle.rules.specs.Links.{named, first_of, next_of, node, tree_of, first_ter
 use Rattle.rules.specs.Check.{type_no, layout_refusal}
 use Rattle.rules.specs.Meets.{MeetsLayout, Meets}
 use Rattle.rules.proofs.Meaning.{layout_exactly, layout_size, some_record}
-use Rattle.rules.proofs.Written.{GoodTable, layout_table}
-use Rattle.rules.specs.Order.{written_table}
-use Rattle.rules.specs.Alike.{Alike, SameFields}
-use Rattle.order.proofs.SameFields.{same_joined, same_omitted}
-use Rattle.order.proofs.Output.{output_same, written_in_order}
+use Rattle.rules.proofs.Written.{GoodTable, layout_table, term_passed}
 use Rattle.inference.specs.Inference.{Begins, cleared, Formed, Inference, inferred, inferred_from}
 use Rattle.inference.specs.Infer.{inference, Filling, SomeFilling, cleared_record, Answered}
 use Rattle.inference.proofs.Outcomes.{Fills, Reaches, fills_some, reaches_some, fills_unless, reaches_unless}
 use Rattle.inference.proofs.Cleared.{size_cleared, cleared_node}
 use Rattle.inference.proofs.ByLinks.{placeless, placeless_fills, placeless_reaches, inferred_by_links, tree_formed, tree_cleared}
-use Rattle.inference.proofs.SameTypes.{same_cleared}
-use Rattle.inference.proofs.Fillings.{filling_table, gives_filling, filling_given, filling_same}
+use Rattle.inference.proofs.Fillings.{filling_table, gives_filling, filling_given}
 
 -- Inference of the root's tree.
 abbrev root_inferred : List ℕ → Inference
@@ -80,16 +75,11 @@ module _ (edition : Edition) (program : List ℕ) (m : MeetsLayout omitted editi
   pub filling_small : (A : Table) (t : Term) → Filling types tree A t → size t ≤ most_records
   filling_small A t f = omega (arith, filling_size A t f, m.counts.1.0)
 
-  pub filling_alike : (A : Table) (t : Term) → Filling types tree A t → Alike (SameFields omitted types A) tree t
-  filling_alike = filling_same types good tree formed
-
   pub filling_answered : HasEveryKind edition → (A : Table) (t : Term) → Filling types tree A t → Answered edition program A t
   filling_answered all A t f = record {
     filling = f;
     records = filling_size A t f;
-    in_order = written_in_order A (filling_table types good tree A t f) t f.typed (filling_small A t f) edition all;
-    back = same_cleared types (written_table A t) (same_joined types A (written_table A t) omitted (filling_alike A t f)
-        (same_omitted A (written_table A t) (output_same A (filling_table types good tree A t f) t f.typed)));
+    passed = term_passed A t (filling_table types good tree A t f) f.typed (filling_small A t f) edition all;
   }
 
 -- The program's layout is good, and its tree is filled.

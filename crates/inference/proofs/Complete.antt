@@ -15,7 +15,7 @@ use Rattle.rules.specs.Format.{most_types}
 use Rattle.rules.specs.Links.{node}
 use Rattle.rules.specs.Refusals.{bad_index, bad_level, bad_type, table_full}
 use Rattle.rules.specs.Check.{judged}
-use Rattle.inference.specs.Inference.{Begins, retyped, cleared, retyped_by, Formed, Wanted, known, made, wanted, table_for, number_for, Inference, filled, no_term, absent, in_order, assigned, inferred}
+use Rattle.inference.specs.Inference.{Begins, retyped, cleared, renumbered, Formed, Wanted, known, made, wanted, table_for, number_for, Inference, filled, no_term, absent, in_order, assigned, inferred}
 use Rattle.rules.proofs.Tests.{pass_both, unless_holds}
 use Rattle.rules.proofs.Written.{GoodTable}
 use Rattle.inference.proofs.Outcomes.{Reaches, reaches_then, reaches_both, reaches_unless}
@@ -24,13 +24,13 @@ use Rattle.inference.proofs.Renaming.{Into, Forced, forced, typed_back, Goes, go
 use Rattle.inference.proofs.Counting.{no_longer}
 use Rattle.inference.proofs.Sound.{bound_any, placed_any, binds₁_any, binds₃_any, field_fixes, EnvIn, env_fixed, env_under, binds₁_in, binds₃_in, Makes, table_begins, table_entries, type_node, wanted_makes, type_in, SoundIf, gone, there, sound}
 
-retyped_by_node : (φ : ℕ → ℕ) (k : Kind) (f : Fields) (c s e : Term)
-    → retyped_by φ (node k f c s e) ≡ node k (retyped (φ f.type) f) (retyped_by φ c) (retyped_by φ s) (retyped_by φ e)
-unfolding retyped_by
-retyped_by_node φ (leaf₀ k) f c s e = refl
-retyped_by_node φ (unary₁ k) f c s e = refl
-retyped_by_node φ (binary₂ k) f c s e = refl
-retyped_by_node φ (ternary₃ k) f c s e = refl
+renumbered_node : (φ : ℕ → ℕ) (k : Kind) (f : Fields) (c s e : Term)
+    → renumbered φ (node k f c s e) ≡ node k (retyped (φ f.type) f) (renumbered φ c) (renumbered φ s) (renumbered φ e)
+unfolding renumbered
+renumbered_node φ (leaf₀ k) f c s e = refl
+renumbered_node φ (unary₁ k) f c s e = refl
+renumbered_node φ (binary₂ k) f c s e = refl
+renumbered_node φ (ternary₃ k) f c s e = refl
 
 -- B is the table of a filling.
 module _ (first B : Table) (twins : NoTwins B) (few : length B ≤ most_types) where
@@ -93,7 +93,7 @@ module _ (first B : Table) (twins : NoTwins B) (few : length B ≤ most_types) w
   -- The numbers of A' go into B as those of A did, and by them t becomes the filling u.
   pub record Reached (A : Table) (φ : ℕ → ℕ) (u : Term) (A' : Table) (t : Term) : Type 0 where
     pub goes : Goes A φ A' B (type_of t) (type_of u)
-    pub like : (ψ : ℕ → ℕ) → ((i : ℕ) → i ≤ length A' → ψ i ≡ goes.to i) → retyped_by ψ t ≡ u
+    pub like : (ψ : ℕ → ℕ) → ((i : ℕ) → i ≤ length A' → ψ i ≡ goes.to i) → renumbered ψ t ≡ u
 
   -- A child, which is there or not, and where inference then stands.
   pub record Child (here : Type 0) (A : Table) (φ : ℕ → ℕ) (Γ : Env) (l : ℕ) (u : Term) (A' : Table) (t : Term) : Type 0 where
@@ -104,7 +104,7 @@ module _ (first B : Table) (twins : NoTwins B) (few : length B ≤ most_types) w
   CompleteFrom here Γ l u infer = (A : Table) (φ : ℕ → ℕ) → Stands A φ → Reaches (Child here A φ Γ l u) (infer A)
 
   away : {here : Type 0} (Γ : Env) (l : ℕ) → (here → ⊥) → CompleteFrom here Γ l no_term absent
-  unfolding cleared retyped_by
+  unfolding cleared renumbered
   away Γ l not-here A φ now = record {
     sound = gone first Γ l not-here A now.table now.begins;
     reached = record {
@@ -167,7 +167,7 @@ module _ (first B : Table) (twins : NoTwins B) (few : length B ≤ most_types) w
               let x = h₁.reached.like ψ (λ i q. agree i (omega arith) ∙ g.agrees i (omega arith) ∙ g₃.agrees i (omega arith) ∙ g₂.agrees i q) in
               let y = h₂.reached.like ψ (λ i q. agree i (omega arith) ∙ g.agrees i (omega arith) ∙ g₃.agrees i q) in
               let z = h₃.reached.like ψ (λ i q. agree i (omega arith) ∙ g.agrees i q) in
-              retyped_by_node ψ k (retyped n f) c s e ∙ (λ i. node k (retyped (w i) f) (x i) (y i) (z i));
+              renumbered_node ψ k (retyped n f) c s e ∙ (λ i. node k (retyped (w i) f) (x i) (y i) (z i));
         }))))
 
   -- Where u is a filling, inference of u cleared fills, and what it fills is u under other numbers.

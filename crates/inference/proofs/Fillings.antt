@@ -1,23 +1,27 @@
 -- Fillings of a whole term: inference gives one where there is one, and all have the same types in full.
+use Prim.Native.Nat.{ℕ, ◌≤◌}
 use native.Mathlib.Omega.{arith}
 use mathlib.Core.List.{[]}
-use mathlib.Core.Path.{sym, subst}
+use mathlib.Core.Path.{◌≡◌, refl, ap, sym, subst, ◌∙◌}
+use lib.ListN.{length}
+use Rattle.rules.specs.Lists.{All}
 use Rattle.rules.specs.Terms.{Term}
 use Rattle.rules.specs.Types.{Table}
-use Rattle.rules.specs.FieldUses.{omitted}
-use Rattle.rules.specs.Alike.{Alike, SameFields, SameTerm}
 use Rattle.inference.specs.Inference.{cleared, Formed, Inference, faulty, filled, inferred}
+use Rattle.inference.specs.FullTypes.{Whole, full_types}
 use Rattle.inference.specs.Infer.{Filling}
 use Rattle.rules.proofs.Meaning.{unlike}
 use Rattle.rules.proofs.Written.{GoodTable}
-use Rattle.order.proofs.SameFields.{same_turned, same_joined}
-use Rattle.order.proofs.Forced.{types_forced}
 use Rattle.inference.proofs.Outcomes.{Fills, Reaches}
 use Rattle.inference.proofs.Growing.{begins_itself, longer}
 use Rattle.inference.proofs.Renaming.{over, over_low, over_into}
 use Rattle.inference.proofs.Sound.{Sound, sound}
 use Rattle.inference.proofs.Complete.{Reached, complete}
-use Rattle.inference.proofs.SameTypes.{cleared_same}
+use Rattle.inference.proofs.InFull.{types_same, types_whole}
+
+reaches_two : (P Q : Table → Term → Type 0) (o : Inference) → Reaches P o → Reaches Q o → (A : Table) × (t : Term) × (P A t × Q A t)
+reaches_two P Q (faulty r) h k = absurd h
+reaches_two P Q (filled A t) h k = (A, t, (h, k))
 
 -- A filling's table is good.
 pub filling_table : (types : Table) → GoodTable types → (given : Term) (B : Table) (u : Term) → Filling types given B u → GoodTable B
@@ -44,11 +48,13 @@ module _ (types : Table) (good : GoodTable types) (given : Term) (form : Formed 
           fixing = over_low fills.begins;
         })
 
-  -- A filling is the given term but for the types of its records.
-  pub filling_same : (B : Table) (u : Term) → Filling types given B u → Alike (SameFields omitted types B) given u
-  filling_same B u f = subst (λ t. Alike (SameFields omitted types B) t u) f.back (cleared_same types B good.entries f.begins u (subst (Formed types) (sym f.back) form))
-
   -- Any two fillings give each record the same type in full.
-  pub same_in_full : (B C : Table) (u v : Term) → Filling types given B u → Filling types given C v → SameTerm B C u v
-  same_in_full B C u v f g = types_forced B C f.entries g.entries
-      (same_joined B types C omitted (same_turned omitted types B (filling_same B u f)) (filling_same C v g)) [] [] 0 tt f.typed g.typed
+  pub same_in_full : (B C : Table) (u v : Term) → Filling types given B u → Filling types given C v → (depth : ℕ) → full_types depth B u ≡ full_types depth C v
+  same_in_full B C u v f g depth =
+      let (A, t, (r, s)) = reaches_two _ _ (inferred types [] 0 given) (filling_given B u f) (filling_given C v g) in
+      ap (full_types depth B) (sym (r.like r.goes.to (λ i h. refl))) ∙ types_same A B r.goes.to r.goes.into depth t
+      ∙ sym (ap (full_types depth C) (sym (s.like s.goes.to (λ i h. refl))) ∙ types_same A C s.goes.to s.goes.into depth t)
+
+  -- A filling's types are so written out in full, to a depth of its table's length.
+  pub filling_whole : (B : Table) (u : Term) → Filling types given B u → (depth : ℕ) → length B ≤ depth → All Whole (full_types depth B u)
+  filling_whole B u f depth deep = types_whole B (filling_table types good given B u f) depth deep u [] 0 f.typed

@@ -9,7 +9,7 @@ pub mod Counting
 pub mod Sound
 pub mod Complete
 pub mod ByLinks
-pub mod SameTypes
+pub mod InFull
 pub mod Fillings
 pub mod Calls
 pub mod Fourteen

@@ -8,13 +8,11 @@ use Rattle.rules.specs.Conditions.{Holds}
 use Rattle.rules.specs.FieldUses.{omitted}
 use Rattle.rules.specs.Typing.{Typed}
 use Rattle.rules.specs.Format.{Record, most_types, record_count, table_of, records_of}
-use Rattle.rules.specs.Links.{first_term}
+use Rattle.rules.specs.Links.{first_term, written}
 use Rattle.rules.specs.Refusals.{Refusal, NumberedTo, table_full}
 use Rattle.rules.specs.Check.{entry_rule, layout_refusal}
-use Rattle.rules.specs.Order.{written_table, written_term}
-use Rattle.rules.specs.Alike.{Alike, SameFields}
-use Rattle.rules.specs.Run.{output, written_over, buffers_refusal}
-use Rattle.rules.specs.WholeRun.{WrittenInOrder}
+use Rattle.rules.specs.Run.{written_over, buffers_refusal}
+use Rattle.rules.specs.WholeRun.{Passed}
 use Rattle.inference.specs.Inference.{Begins, retyped_record, cleared, Inference, faulty, filled, unless_refused, inferred_from}
 
 -- "Checks: 1 to 9 as for run, except that 7 doesn't look at the type field; 13 a nonzero type field, right after 7, lowest record; then, in place
@@ -26,8 +24,7 @@ inference edition program = unless_refused (layout_refusal omitted edition progr
 unfoldable pub inference_lent : Edition → List ℕ → ℕ → ℕ → Inference
 inference_lent edition program out_length work_length = unless_refused (buffers_refusal out_length work_length) (inference edition program)
 
--- "Returning root type and length"; by N4 "the root type that .. N1's call returns is a number in the written table", and "N1's call writes so too": the table
--- in order of use. A refusal has number and place, its other fields 0.
+-- "Returning root type and length". A refusal has number and place, its other fields 0.
 pub record InferAnswer : Type 0 where
   pub number : ℕ
   pub place : ℕ
@@ -36,12 +33,12 @@ pub record InferAnswer : Type 0 where
 
 abbrev pub answer_of : Inference → InferAnswer
 answer_of (faulty r) = record { number = r.number; place = r.place; root_type = 0; written = 0 }
-answer_of (filled types t) = record { number = 0; place = 0; root_type = type_of (written_term types t); written = length (output types t) }
+answer_of (filled types t) = record { number = 0; place = 0; root_type = type_of t; written = length (written types t) }
 
 -- "Bytes beyond the written program stay unchanged"; a refused call changes nothing.
 abbrev pub output_of : Inference → List ℕ → List ℕ
 output_of (faulty r) out = out
-output_of (filled types t) out = written_over out (output types t)
+output_of (filled types t) out = written_over out (written types t)
 
 unfoldable pub infer_answer : Edition → List ℕ → ℕ → ℕ → InferAnswer
 infer_answer edition program out_length work_length = answer_of (inference_lent edition program out_length work_length)
@@ -69,10 +66,9 @@ SomeFilling program = (B : Table) × (u : Term) × Filling (table_of program) (f
 abbrev pub cleared_record : Record → Record
 cleared_record = retyped_record 0
 
--- What is filled and written for a program: a filling of its tree, of as many records, which is written in order of use: "the output passes, and clearing
--- its types gives the input's tree back", each binder's type the same in full.
+-- What is written for a program: a filling of its tree, of as many records, which passes and is read back as it is: "the output passes, and clearing
+-- its types gives the input's tree back".
 pub record Answered (edition : Edition) (program : List ℕ) (A : Table) (t : Term) : Type 0 where
   pub filling : Filling (table_of program) (first_term program) A t
   pub records : size t ≡ record_count program
-  pub in_order : WrittenInOrder edition A t
-  pub back : Alike (SameFields omitted (table_of program) (written_table A t)) (first_term program) (cleared (written_term A t))
+  pub passed : Passed edition A t

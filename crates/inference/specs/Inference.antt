@@ -41,11 +41,11 @@ types_of (binary k f t u) = f.type ∷ (types_of t ++ types_of u)
 types_of (ternary k f t s e) = f.type ∷ (types_of t ++ (types_of s ++ types_of e))
 
 -- The term with the type n of each record changed to φ n: the same types under other numbers.
-unfoldable pub retyped_by : (ℕ → ℕ) → Term → Term
-retyped_by φ (leaf k f) = leaf k (retyped (φ f.type) f)
-retyped_by φ (unary k f t) = unary k (retyped (φ f.type) f) (retyped_by φ t)
-retyped_by φ (binary k f t u) = binary k (retyped (φ f.type) f) (retyped_by φ t) (retyped_by φ u)
-retyped_by φ (ternary k f t s e) = ternary k (retyped (φ f.type) f) (retyped_by φ t) (retyped_by φ s) (retyped_by φ e)
+unfoldable pub renumbered : (ℕ → ℕ) → Term → Term
+renumbered φ (leaf k f) = leaf k (retyped (φ f.type) f)
+renumbered φ (unary k f t) = unary k (retyped (φ f.type) f) (renumbered φ t)
+renumbered φ (binary k f t u) = binary k (retyped (φ f.type) f) (renumbered φ t) (renumbered φ u)
+renumbered φ (ternary k f t s e) = ternary k (retyped (φ f.type) f) (renumbered φ t) (renumbered φ s) (renumbered φ e)
 
 -- Every record of the term keeps rule 7 but for its type field.
 unfoldable pub Formed : Table → Term → Type 0

@@ -12,7 +12,6 @@ use Rattle.rules.specs.Terms.{Term}
 use Rattle.rules.specs.FieldUses.{given}
 use Rattle.rules.specs.Format.{most_records, u16, type_count, record_count, table_of, records_of, program_bytes}
 use Rattle.rules.specs.Links.{laid}
-use Rattle.rules.specs.Order.{written_table, written_term}
 use Rattle.rules.specs.Refusals.{Refusal, OneOfTwelve, ◌then◌}
 use Rattle.rules.specs.Check.{refusal}
 use Rattle.rules.specs.Meets.{Meets}
@@ -20,9 +19,9 @@ use Rattle.rules.specs.Run.{Ending, valued, spent, full, ending_number, program_
 use Rattle.rules.proofs.General.{Gives}
 use Rattle.rules.proofs.Twelve.{refusal_numbered}
 use Rattle.rules.proofs.Meaning.{buffers_passed, exactly}
+use Rattle.rules.proofs.Laid.{length_laid}
 use Rattle.rules.proofs.Bytes.{Back, u16_back}
-use Rattle.rules.proofs.Written.{GoodTable, layout_table}
-use Rattle.order.proofs.Output.{output_table, output_back, records_counted}
+use Rattle.rules.proofs.Written.{GoodTable, back, layout_table}
 use Rattle.rules.proofs.Whole.{last_typed, last_small}
 use Rattle.records.specs.View.{records_in}
 use Rattle.records.proofs.Program.{program_records_slice}
@@ -96,12 +95,12 @@ module _ (p : List ℕ) (fuel : ℕ) (out work : List ℕ) (room : output_needed
       table_good : GoodTable (table_of p)
       table_good = layout_table given first_edition p m.layout
 
-      last_back : Back (written_table (table_of p) last) (laid 1 0 (written_term (table_of p) last))
-      last_back = output_back (table_of p) table_good last (last_typed first_edition (omega arith) p m fuel).0 (last_small first_edition (omega arith) p m fuel)
+      last_back : Back (table_of p) (laid 1 0 last)
+      last_back = back (table_of p) last table_good (last_typed first_edition (omega arith) p m fuel).0 (last_small first_edition (omega arith) p m fuel)
 
-      types_back : u16 out' 0 ≡ length (written_table (table_of p) last)
+      types_back : u16 out' 0 ≡ length (table_of p)
       unfolding program_bytes
-      types_back = rw accepted_run.output (u16_back (length (written_table (table_of p) last)) (omega (arith, (output_table (table_of p) table_good last (last_typed first_edition (omega arith) p m fuel).0).few)))
+      types_back = rw accepted_run.output (u16_back (length (table_of p)) (omega (arith, table_good.few)))
 
       written_is : a.written ≡ length bytes
       written_is = ap (λ x. x.written) accepted_run.answer
@@ -134,6 +133,6 @@ module _ (p : List ℕ) (fuel : ℕ) (out work : List ℕ) (room : output_needed
           ending = rw (ap (λ x. x.ending) accepted_run.answer) (ending_range (program_course p fuel).ending);
           from = start_before;
           to = omega (arith, written_is, ap length accepted_run.output, length-append bytes (drop (length bytes) out));
-          few = omega (arith, ap length part_records, ap length last_back.records_back, records_counted (table_of p) table_good last (last_typed first_edition (omega arith) p m fuel).0 (last_small first_edition (omega arith) p m fuel), last_small first_edition (omega arith) p m fuel);
+          few = omega (arith, ap length part_records, ap length last_back.records_back, length_laid 1 0 last, last_small first_edition (omega arith) p m fuel);
           text = ap (accepted_text a.ending a.steps a.root_type) part_records ∙ (rw (eq-eqb a.number 0 z) at text_is);
         }

@@ -9,15 +9,12 @@ use Rattle.rules.specs.FreeBounds.{free_bound}
 use Rattle.rules.specs.Format.{Record}
 use Rattle.rules.specs.Links.{tree_of}
 use Rattle.rules.proofs.FreeBounds.{typed_bound}
-use Rattle.order.proofs.Used.{named_entries}
-use Rattle.records.specs.View.{entries_in}
 use Rattle.inference.specs.Inference.{cleared}
 use Rattle.inference.proofs.Cleared.{size_cleared}
 use Rattle.terms.specs.Preorder.{preorder, At, Stored}
 use Rattle.terms.specs.Loads.{CanLoad}
 use Rattle.terms.proofs.Storing.{stored_length, stored_at}
-use Rattle.numbering.specs.declared.Ordered.{Ordered}
-use Rattle.numbering.specs.InOrder.{OrderFits, CanWriteInOrder, WritesInOrder}
+use Rattle.writing.specs.Program.{ProgramFits, CanWriteProgram, WritesProgram}
 use Rattle.retyping.specs.Retyping.{PutsTypes, TypedFits, CanWriteTyped, WritesTyped}
 use Rattle.retyping.proofs.Types.{length_types, bound_cleared}
 use Rattle.retyping.proofs.Putting.{typed_at}
@@ -32,24 +29,20 @@ module _ (rs : List Record) (count : ℕ) (ts table : List ℕ) (types : ℕ) (w
     loaded_size = ap size cleared_loaded ∙ size_cleared t ∙ h.size_is
 
     loaded_bound : free_bound (tree_of count rs 1) ≤ 0
-    loaded_bound = omega (arith, ap free_bound cleared_loaded, bound_cleared t, typed_bound (entries_in table) [] 0 t h.typed)
+    loaded_bound = omega (arith, ap free_bound cleared_loaded, bound_cleared t, typed_bound h.ruled [] 0 t h.typed)
 
-    order_fits : (ws₁ ws₂ : List Record) (e : ℕ) → Stored ws ws₁ 0 (preorder (tree_of count rs 1)) e → PutsTypes ws₁ ts ws₂ → OrderFits table types ws₂ count s t
-    order_fits ws₁ ws₂ e l p =
+    program_fits : (ws₁ ws₂ : List Record) (e : ℕ) → Stored ws ws₁ 0 (preorder (tree_of count rs 1)) e → PutsTypes ws₁ ts ws₂ → ProgramFits table types ws₂ 0 count s t
+    program_fits ws₁ ws₂ e l p =
         let loaded : At ws₁ 0 (tree_of count rs 1) = stored_at (tree_of count rs 1) l (omega (arith, loaded_size, h.slots)) in
         record {
-          good = h.good;
-          named = named_entries (entries_in table) [] 0 t h.typed;
-          fits = record {
-            entries = h.entries;
-            some_types = h.some_types;
-            few_types = h.few_types;
-            there = typed_at t ws₁ ws₂ (rw cleared_loaded at loaded) (rw h.given p);
-            size_is = h.size_is;
-            some = h.some;
-            few = h.few;
-            room = h.room;
-          };
+          entries = h.entries;
+          some_types = h.some_types;
+          few_types = h.few_types;
+          there = typed_at t ws₁ ws₂ (rw cleared_loaded at loaded) (rw h.given p);
+          size_is = h.size_is;
+          some = h.some;
+          few = h.few;
+          room = h.room;
         }
 
   module _ (h : CanWriteTyped rs count ts table types ws s) where
@@ -68,11 +61,11 @@ module _ (rs : List Record) (count : ℕ) (ts table : List ℕ) (types : ℕ) (w
       pub types_fit : length ts ≤ length ws₁
       types_fit = omega (arith, stored_length l, length_types h.tree, ap length h.can.given, h.can.size_is, h.can.slots)
 
-      pub typed_fits : (ws₂ : List Record) → PutsTypes ws₁ ts ws₂ → CanWriteInOrder table types ws₂ count s
-      typed_fits ws₂ p = record { tree = h.tree; can = order_fits h.tree h.can ws₁ ws₂ e l p }
+      pub typed_fits : (ws₂ : List Record) → PutsTypes ws₁ ts ws₂ → CanWriteProgram table types ws₂ 0 count s
+      typed_fits ws₂ p = record { tree = h.tree; can = program_fits h.tree h.can ws₁ ws₂ e l p }
 
-  pub typed_written : (s' : List ℕ) (r : Ordered) (ws₂ : List Record) → WritesInOrder table types ws₂ count s s' r → (ws₁ : List Record) → PutsTypes ws₁ ts ws₂
+  pub typed_written : (s' : List ℕ) (r : ℕ) (ws₂ : List Record) → WritesProgram table types ws₂ 0 count s s' r → (ws₁ : List Record) → PutsTypes ws₁ ts ws₂
       → (e : ℕ) → Stored ws ws₁ 0 (preorder (tree_of count rs 1)) e → WritesTyped rs count ts table types ws s s' r
-  typed_written s' r ws₂ w ws₁ p e l = record { does = λ t h. w.does t (order_fits t h ws₁ ws₂ e l p) }
+  typed_written s' r ws₂ w ws₁ p e l = record { does = λ t h. w.does t (program_fits t h ws₁ ws₂ e l p) }
 
 pub ruleset loading = (typed_loads, types_fit)

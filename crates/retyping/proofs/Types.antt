@@ -1,22 +1,23 @@
 -- The types of a tree: its measures don't look at them, so that its records are those of the cleared tree with its types.
 use Prim.Native.Nat.{ℕ, ◌+◌, ◌*◌}
 use native.Mathlib.Omega.{arith}
+use mathlib.Core.Bool.{◌&&◌}
 use mathlib.Core.List.{List, [], ◌∷◌, ◌++◌}
 use mathlib.Core.Path.{◌≡◌, refl, sym, ap, ap₂, ◌∙◌}
 use lib.ListN.{length, length-append}
 use Rattle.rules.specs.Lists.{pick}
 use Rattle.rules.specs.Kinds.{Kind, leaf₀, unary₁, binary₂, ternary₃}
 use Rattle.rules.specs.Terms.{Fields, Term, leaf, unary, binary, ternary, size}
-use Rattle.rules.specs.FreeBounds.{own_bound, free_bound}
+use Rattle.rules.specs.FreeBounds.{own_bound, root_bound, free_bound}
+use Rattle.rules.specs.Values.{plain_kind, plain}
 use Rattle.rules.specs.Format.{Record}
 use Rattle.rules.specs.Links.{linked}
 use Rattle.rules.proofs.KindTable.{each_kind}
-use Rattle.order.proofs.Alike.{plain_alike}
-use Rattle.order.proofs.AlikeBounds.{bound_alike}
 use Rattle.inference.specs.Inference.{retyped, retyped_record, cleared, types_of}
-use Rattle.inference.proofs.Cleared.{cleared_alike, size_cleared}
+use Rattle.inference.proofs.Cleared.{size_cleared}
 use Rattle.terms.specs.Preorder.{bound_and_plain, preorder}
 use Rattle.terms.proofs.Trees.{length_preorder}
+use Rattle.terms.proofs.Joined.{first_over, second_over}
 use Rattle.retyping.specs.Retyping.{with_types}
 
 -- How many types a term has.
@@ -32,11 +33,34 @@ length_types (ternary k f t s e) =
 own_cleared : (f : Fields) (k : Kind) → own_bound k (retyped 0 f) ≡ own_bound k f
 own_cleared f = each_kind (λ k. own_bound k (retyped 0 f) ≡ own_bound k f) (omega arith)
 
+root_cleared : (k : Kind) (f : Fields) (x y z : ℕ) → root_bound k (retyped 0 f) x y z ≡ root_bound k f x y z
+root_cleared k f x y z = rw (own_cleared f k, first_over (retyped 0 f) k, first_over f k, second_over (retyped 0 f) k, second_over f k)
+
 pub bound_cleared : (t : Term) → free_bound (cleared t) ≡ free_bound t
-bound_cleared t = bound_alike (λ k f g e. ap (own_bound k) e ∙ own_cleared g k) (cleared_alike t)
+unfolding free_bound cleared
+bound_cleared (leaf k f) = root_cleared (leaf₀ k) f 0 0 0
+bound_cleared (unary k f t) = root_cleared (unary₁ k) f (free_bound (cleared t)) 0 0 ∙ ap (λ x. root_bound (unary₁ k) f x 0 0) (bound_cleared t)
+bound_cleared (binary k f t u) =
+    root_cleared (binary₂ k) f (free_bound (cleared t)) (free_bound (cleared u)) 0 ∙ ap₂ (λ x y. root_bound (binary₂ k) f x y 0) (bound_cleared t) (bound_cleared u)
+bound_cleared (ternary k f t s e) =
+    let p = bound_cleared t in
+    let q = bound_cleared s in
+    let r = bound_cleared e in
+    root_cleared (ternary₃ k) f (free_bound (cleared t)) (free_bound (cleared s)) (free_bound (cleared e)) ∙ (λ i. root_bound (ternary₃ k) f (p i) (q i) (r i))
+
+plain_cleared : (t : Term) → plain (cleared t) ≡ plain t
+unfolding plain cleared
+plain_cleared (leaf k f) = refl
+plain_cleared (unary k f t) = ap (λ x. plain_kind (unary₁ k) && x) (plain_cleared t)
+plain_cleared (binary k f t u) = ap₂ (λ x y. plain_kind (binary₂ k) && (x && y)) (plain_cleared t) (plain_cleared u)
+plain_cleared (ternary k f t s e) =
+    let p = plain_cleared t in
+    let q = plain_cleared s in
+    let r = plain_cleared e in
+    λ i. plain_kind (ternary₃ k) && (p i && (q i && r i))
 
 measured_alike : (t : Term) → bound_and_plain (cleared t) ≡ bound_and_plain t
-measured_alike t = ap₂ (λ x y. 2 * x + pick y 1 0) (bound_cleared t) (plain_alike (cleared_alike t))
+measured_alike t = ap₂ (λ x y. 2 * x + pick y 1 0) (bound_cleared t) (plain_cleared t)
 
 -- Types that are put into records one part after another.
 pub types_append : (ts us : List ℕ) (rs qs : List Record) → length ts ≡ length rs → with_types (ts ++ us) (rs ++ qs) ≡ with_types ts rs ++ with_types us qs

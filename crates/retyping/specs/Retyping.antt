@@ -1,15 +1,13 @@
 -- What is put into the records of a tree whose types are omitted, and what the writing of the typed program asks and does.
 use Rattle.std.specs.Prelude.{ℕ, ◌+◌, ◌*◌, ◌≤◌, List, [], ◌∷◌, ◌≡◌, length}
 use Rattle.rules.specs.Terms.{Term, size}
+use Rattle.rules.specs.Types.{Table}
 use Rattle.rules.specs.Typing.{Typed}
 use Rattle.rules.specs.Format.{Record, most_types, most_records}
 use Rattle.rules.specs.Links.{root_tree}
-use Rattle.rules.specs.FullTypes.{GoodEntries}
 use Rattle.inference.specs.Inference.{retyped_record, cleared, types_of}
-use Rattle.records.specs.View.{entries_in}
 use Rattle.terms.specs.Loads.{WellLinked}
-use Rattle.numbering.specs.declared.Ordered.{Ordered}
-use Rattle.numbering.specs.InOrder.{WroteInOrder}
+use Rattle.writing.specs.Program.{WroteProgram}
 
 -- The records with the types ts, from the first on: all else stays, and so do the records that have no type in ts.
 unfoldable pub with_types : List ℕ → List Record → List Record
@@ -22,10 +20,11 @@ pub record PutsTypes (rs : List Record) (ts : List ℕ) (rs' : List Record) : Ty
   pub is : rs' ≡ with_types ts rs
 
 -- The types ts make t of the tree of the root of `count` records rs, whose types are omitted: "clearing its types gives the input's tree back". It keeps
--- the rules of the table, which has good entries, as many as `types` says, and there is room for t in the records ws and for the program in the bytes s.
+-- the rules of some table, the table that is written has as many entries as `types` says, and there is room for t in the records ws and for the
+-- program in the bytes s.
 pub record TypedFits (rs : List Record) (count : ℕ) (ts table : List ℕ) (types : ℕ) (ws : List Record) (s : List ℕ) (t : Term) : Type 0 where
-  pub good : GoodEntries (entries_in table)
-  pub typed : Typed (entries_in table) [] 0 t
+  pub ruled : Table
+  pub typed : Typed ruled [] 0 t
   pub back : cleared t ≡ root_tree rs
   pub given : types_of t ≡ ts
   pub linked : WellLinked rs
@@ -43,6 +42,6 @@ pub record CanWriteTyped (rs : List Record) (count : ℕ) (ts table : List ℕ) 
   pub tree : Term
   pub can : TypedFits rs count ts table types ws s tree
 
--- The typed program is written over s, and r is its length and its root's type: "writes the typed program in preorder".
-pub record WritesTyped (rs : List Record) (count : ℕ) (ts table : List ℕ) (types : ℕ) (ws : List Record) (s s' : List ℕ) (r : Ordered) : Type 0 where
-  pub does : (t : Term) → TypedFits rs count ts table types ws s t → WroteInOrder table types count s s' t r
+-- The typed program is written over s, and r is its length: "writes the typed program in preorder".
+pub record WritesTyped (rs : List Record) (count : ℕ) (ts table : List ℕ) (types : ℕ) (ws : List Record) (s s' : List ℕ) (r : ℕ) : Type 0 where
+  pub does : (t : Term) → TypedFits rs count ts table types ws s t → WroteProgram table types count s s' t r

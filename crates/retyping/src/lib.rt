@@ -3,8 +3,6 @@ ghost use Rattle.std.specs.Prelude.{◌≤◌, length};
 ghost use Rattle.records.specs.View.{records_in};
 ghost use Rattle.retyping.specs.Retyping.{PutsTypes, CanWriteTyped, WritesTyped};
 
-use numbering::Ordered;
-
 // Puts the types, which are given in preorder, into the records of the tree at the front of `w`.
 fn put_types(w: &mut [u8], given: &[u16])
     requires { length given.now ≤ length (records_in w.old) }
@@ -20,7 +18,7 @@ fn put_types(w: &mut [u8], given: &[u16])
 }
 
 // Writes a program with its types: loads the tree of the root of `count` records into the work buffer, puts the types into it, and writes it with the
-// table of `types` entries in order of use. Tells the length and the root's type.
+// table of `types` entries. Tells the length.
 pub fn write_typed(
     records: &[u8],
     count: u16,
@@ -29,11 +27,11 @@ pub fn write_typed(
     types: u16,
     work: &mut [u8],
     output: &mut [u8],
-) -> Ordered
+) -> usize
     requires { CanWriteTyped (records_in records.now) count given.now table.now types (records_in work.old) output.old }
     ensures { WritesTyped (records_in records.now) count given.now table.now types (records_in work.old) output.old output.new result }
 {
     terms::load(records, 1, count, work, 0);
     put_types(work, given);
-    numbering::write_in_order(table, types, work, count, output)
+    writing::write_program(table, types, work, 0, count, output)
 }

@@ -6,8 +6,10 @@ use mathlib.Core.List.{List}
 use mathlib.Core.Path.{◌≡◌, refl, ◌∙◌}
 use lib.ListN.{length}
 use Rattle.rules.specs.Types.{Table}
-use Rattle.rules.specs.Typing.{Env}
-use Rattle.rules.specs.Format.{Record}
+use Rattle.rules.specs.Kinds.{kind_of}
+use Rattle.rules.specs.Binders.{over_first, over_second}
+use Rattle.rules.specs.Typing.{Env, under, first_level}
+use Rattle.rules.specs.Format.{Record, record_no}
 use Rattle.rules.specs.Links.{first_of, next_of}
 use Rattle.rules.specs.Check.{walked}
 use Rattle.rules.proofs.Tree.{first_le, next_le, first_above, second_above, third_above}
@@ -21,13 +23,15 @@ module _ (types : Table) (rs : List Record) where
   one_more (suc left) zero Γ l b r = refl
   one_more (suc left) (suc m) Γ l b r =
       let n = suc m in
+      let f = (record_no rs n).fields in
+      let k = kind_of (record_no rs n).kind in
       let c = first_of rs n in
       let s = next_of rs c in
       let h = r (omega arith) in
       rw (
-        one_more left c _ _ (first_le rs n) (λ p. omega (arith, first_above rs n p)),
-        one_more left s _ _ (next_le rs c) (λ p. omega (arith, second_above rs n p)),
-        one_more left (next_of rs s) _ _ (next_le rs s) (λ p. omega (arith, third_above rs n p)),
+        one_more left c (under l (over_first k f) Γ) (first_level k l) (first_le rs n) (λ p. omega (arith, first_above rs n p)),
+        one_more left s (under 0 (over_second k f) Γ) l (next_le rs c) (λ p. omega (arith, second_above rs n p)),
+        one_more left (next_of rs s) Γ l (next_le rs s) (λ p. omega (arith, third_above rs n p)),
       )
 
   -- As many as there are records, or more.

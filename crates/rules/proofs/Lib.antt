@@ -27,7 +27,6 @@ pub mod Bench
 pub mod Totals
 pub mod Small
 pub mod Readings
-pub mod UseOrder
 pub mod Moving
 pub mod Shifts
 pub mod FreeBounds

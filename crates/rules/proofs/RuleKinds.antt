@@ -59,7 +59,7 @@ success_number_lem (match_shape match_function) = refl
 success_number_lem (match_shape match_fix) = refl
 
 -- The match whose kind has number n. What stands for a number that no match's kind has is of no account.
-abbrev pub match_of : Kind → Match
+abbrev match_of : Kind → Match
 match_of (leaf₀ k) = match_variable
 match_of (unary₁ k) = match_variable
 match_of (binary₂ k) = match_variable

@@ -1,4 +1,4 @@
--- The whole run of a program that meets the rules: demand 3 but for what is written of it, which is crate `order`'s.
+-- The run keeps demand 3.
 use Prim.Native.Nat.{ℕ, zero, suc, ◌≤◌, ◌<◌}
 use native.Mathlib.Omega.{arith}
 use mathlib.Core.List.{List, [], ◌∷◌}
@@ -17,15 +17,18 @@ use Rattle.rules.specs.Steps.{Event, Step, Steps, still, more}
 use Rattle.rules.specs.Next.{next}
 use Rattle.rules.specs.Format.{most_records, table_of}
 use Rattle.rules.specs.Links.{first_term}
+use Rattle.rules.specs.Refusals.{output_short}
 use Rattle.rules.specs.Meets.{Meets}
-use Rattle.rules.specs.Run.{Ending, valued, spent, full, Course, ended, after_step, course, program_course}
-use Rattle.rules.specs.WholeRun.{Passed, Overfull, Ends, EachTo, Makes, WholeRun}
+use Rattle.rules.specs.Run.{Ending, valued, spent, full, Course, ended, after_step, course, program_course, run_refusal, run_answer, run_output}
+use Rattle.rules.specs.WholeRun.{Passed, Overfull, Ends, EachTo, Makes, WholeRun, Demand3}
 use Rattle.rules.proofs.General.{tested, tested_option}
 use Rattle.rules.proofs.Preserved.{preserved, run_preserved}
+use Rattle.rules.proofs.Tests.{both_pass, holds_unless}
 use Rattle.rules.proofs.Agree.{agree, deterministic, same_event, rests}
 use Rattle.rules.proofs.Progress.{goes}
-use Rattle.rules.proofs.Meaning.{unlike, root_size}
-use Rattle.rules.proofs.Written.{term_passed, layout_table}
+use Rattle.rules.proofs.Meaning.{exactly, unlike, root_size}
+use Rattle.rules.proofs.Laid.{length_laid}
+use Rattle.rules.proofs.Written.{back, term_passed, layout_table}
 
 module _ (types : Table) where
   each_first : {t : Term} (P : Term → Type 0) → P t → EachTo types t 0 P
@@ -114,3 +117,24 @@ module _ (edition : Edition) (all : HasEveryKind edition) (program : List ℕ) (
 
   pub last_small : size (program_course program fuel).last ≤ most_records
   last_small = program_run.makes.small (program_course program fuel).trace (program_course program fuel).last (omega arith) program_run.makes.made
+
+-- Demand 3: every accepted run, whatever the buffers hold.
+module _ (edition : Edition) (all : HasEveryKind edition) (program : List ℕ) (fuel : ℕ) (out : List ℕ) (work_length : ℕ) (unrefused : run_refusal edition program (length out) work_length ≡ none) where
+  m : Meets edition program
+  m = (exactly edition program).0 (both_pass _ _ unrefused).1
+
+  pub demand_3 : Demand3 edition program fuel out work_length
+  unfolding run_answer run_output
+  demand_3 =
+      let table = layout_table given edition program m.layout in
+      let typed = (last_typed edition all program m fuel).0 in
+      let small = last_small edition all program m fuel in
+      let b = back (table_of program) (program_course program fuel).last table typed small in
+      let (o, _) = holds_unless _ output_short 0 (both_pass _ _ (both_pass _ _ unrefused).0).0 in
+      record {
+        course = program_course program fuel;
+        whole = program_run edition all program m fuel;
+        answers = rw (unrefused, run_answer);
+        writes = rw (unrefused, run_output);
+        fits = omega (arith, b.length_back, length_laid 1 0 (program_course program fuel).last, small, table.few);
+      }

@@ -1,4 +1,4 @@
--- Document 01 as definitions, about in the paper's order, with what document 02's N2 and N4 change in a run. Definitions only: what is true of them stands in proofs/.
+-- Document 01 as definitions, about in the paper's order, and what document 02's N2 adds to a run. Definitions only: what is true of them stands in proofs/.
 -- Words of our own: lists; rules as lists of conditions.
 pub mod Lists
 pub mod Conditions
@@ -24,16 +24,10 @@ pub mod Next
 -- Words of our own on indices: how far the free ones reach, and how a tree is shifted.
 pub mod FreeBounds
 pub mod Shifts
--- "Check and run": check.
+-- "Check and run", what 02 reads off a run's steps, and demand 3.
 pub mod Refusals
 pub mod Check
 pub mod Meets
--- 02's types in full, tables in order of use, and what differs in numbers of types only.
-pub mod FullTypes
-pub mod Numbers
-pub mod Order
-pub mod Alike
--- Run, what 02 reads off its steps, and demand 3.
 pub mod Traces
 pub mod Run
 pub mod WholeRun

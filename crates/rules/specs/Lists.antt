@@ -1,5 +1,5 @@
 -- Words on lists and tests that the definitions share. Nothing here is of document 01.
-use Rattle.std.specs.Prelude.{ℕ, zero, suc, ◌+◌, List, [], ◌∷◌, ◌++◌, Bool, true, false, ◌⊎◌}
+use Rattle.std.specs.Prelude.{ℕ, zero, suc, ◌+◌, List, [], ◌∷◌, ◌++◌, Bool, true, false}
 use Rattle.std.proofs.Math.Option.{Option, none, some}
 
 -- x where the test holds, else y.
@@ -11,11 +11,6 @@ pick false x y = y
 abbrev pub All : {A : Type 0} → (A → Type 0) → List A → Type 0
 All P [] = Unit {0}
 All P (x ∷ xs) = P x × All P xs
-
--- P of some element.
-abbrev pub Any : {A : Type 0} → (A → Type 0) → List A → Type 0
-Any P [] = ⊥
-Any P (x ∷ xs) = P x ⊎ Any P xs
 
 -- k of what there is, if there is something.
 abbrev pub mapped : {A B : Type 0} → (A → B) → Option A → Option B

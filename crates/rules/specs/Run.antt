@@ -10,7 +10,6 @@ use Rattle.rules.specs.Steps.{Event}
 use Rattle.rules.specs.Next.{next}
 use Rattle.rules.specs.Format.{most_records, table_of}
 use Rattle.rules.specs.Links.{first_term, written}
-use Rattle.rules.specs.Order.{written_table, written_term}
 use Rattle.rules.specs.Refusals.{Refusal, output_short, work_short, unless, ◌then◌}
 use Rattle.rules.specs.Check.{refusal}
 use Rattle.rules.specs.Traces.{replaced_total}
@@ -65,9 +64,9 @@ run types fuel t = outcome_of (course types fuel t)
 abbrev pub program_course : List ℕ → ℕ → Course
 program_course program fuel = course (table_of program) fuel (first_term program)
 
--- "It writes the same type table and the last term", the table, by document 02, N4, in order of use: what a run under this table that ends with t writes.
+-- "It writes the same type table and the last term": what a run under this table that ends with t writes.
 abbrev pub output : Table → Term → List ℕ
-output types t = written (written_table types t) (written_term types t)
+output types t = written types t
 
 -- "Output beyond that length is unchanged": a buffer after these bytes were written to it.
 abbrev pub written_over : List ℕ → List ℕ → List ℕ
@@ -97,14 +96,14 @@ pub record RunAnswer : Type 0 where
   pub replaced : ℕ
 
 -- "An accepted run returns ending, n, root type and written length. Every accepted answer has number and place 0." By N2 "the result carries the total"
--- of the replaced variables "for all its steps"; by N4 "the root type that a run .. returns is a number in the written table".
+-- of the replaced variables "for all its steps".
 abbrev pub accepted : Table → Course → RunAnswer
 accepted types c = record {
   number = 0;
   place = 0;
   ending = ending_number c.ending;
   steps = length c.trace;
-  root_type = type_of (written_term types c.last);
+  root_type = type_of c.last;
   written = length (output types c.last);
   replaced = replaced_total c.trace;
 }

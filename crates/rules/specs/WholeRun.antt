@@ -1,6 +1,5 @@
 -- Demand 3: "one claim about the whole run, from the first term to the last, and not one for each step".
 use Rattle.std.specs.Prelude.{ℕ, ◌≤◌, ◌<◌, List, ◌≡◌, ◌⊎◌, T, length}
-use Rattle.rules.specs.Lists.{Any}
 use Rattle.rules.specs.Editions.{Edition}
 use Rattle.rules.specs.Terms.{Term, size, type_of}
 use Rattle.rules.specs.Types.{Table}
@@ -9,9 +8,6 @@ use Rattle.rules.specs.Steps.{Event, Step, Steps}
 use Rattle.rules.specs.Format.{most_records, table_of}
 use Rattle.rules.specs.Links.{first_term, written}
 use Rattle.rules.specs.Check.{check_answer, passing}
-use Rattle.rules.specs.FullTypes.{NamesType, in_full, PartOf}
-use Rattle.rules.specs.Order.{types_named, written_table, written_term}
-use Rattle.rules.specs.Alike.{SameTerm}
 use Rattle.rules.specs.Run.{Ending, valued, spent, full, Course, output, written_over, accepted, run_answer, run_output}
 
 -- "A term is passed at level 0 when, written in preorder with that table, it keeps every rule of 'The program form' and 'Levels and types', its
@@ -56,19 +52,11 @@ pub record WholeRun (edition : Edition) (types : Table) (first : Term) (fuel : �
   pub stops : length c.trace < fuel → T (value c.last) ⊎ Overfull types c.last
   pub ends : Ends types fuel c.ending (length c.trace) c.last
 
--- What is written for t over a table in order of use, document 02, N4: it is passed and reads back; it is t, each type the same in full; and the written
--- table "has only types that the written records or their parts need".
-pub record WrittenInOrder (edition : Edition) (types : Table) (t : Term) : Type 0 where
-  pub passed : Passed edition (written_table types t) (written_term types t)
-  pub same : SameTerm types (written_table types t) t (written_term types t)
-  pub needs_each : (n : ℕ) → NamesType (written_table types t) n → Any (λ x. PartOf (in_full (written_table types t) n) (in_full (written_table types t) x)) (types_named (written_term types t))
-
 -- What is claimed of each accepted run, by the definitions that its answer and its output buffer equal: they are those of a whole run, the number of its
--- steps and the total of what gave way in them among the rest, and its last term is written in order of use.
+-- steps and the total of what gave way in them among the rest, and its last term is written, which is passed and so is read back.
 pub record Demand3 (edition : Edition) (program : List ℕ) (fuel : ℕ) (out : List ℕ) (work_length : ℕ) : Type 0 where
   pub course : Course
   pub whole : WholeRun edition (table_of program) (first_term program) fuel course
   pub answers : run_answer edition program fuel (length out) work_length ≡ accepted (table_of program) course
   pub writes : run_output edition program fuel out work_length ≡ written_over out (output (table_of program) course.last)
   pub fits : length (output (table_of program) course.last) ≤ length out
-  pub in_order : WrittenInOrder edition (table_of program) course.last

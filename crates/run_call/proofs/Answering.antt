@@ -14,7 +14,7 @@ use Rattle.rules.specs.Check.{refusal}
 use Rattle.rules.specs.Run.{refused, work_needed, buffers_refusal, run_refusal, run_answer, run_output}
 use Rattle.rules.proofs.Tests.{never}
 use Rattle.rules.proofs.Meaning.{exactly}
-use Rattle.order.proofs.Runs.{demand_3}
+use Rattle.rules.proofs.Whole.{demand_3}
 use Rattle.refusals.specs.declared.Verdict.{Verdict}
 use Rattle.refusals.specs.Tells.{refusal_by, Tells}
 use Rattle.refusals.proofs.Laws.{no_number, some_number}

@@ -41,13 +41,14 @@ fn accepted(program: &[u8], fuel: u32, output: &mut [u8], work: &mut [u8]) -> Ru
     requires { CanRunProgram first_edition program.now output.old work.old }
     ensures { Accepted program.now fuel output.old output.new result }
 {
+    let root = check_call::root_type(program);
     let done = running::run_program(program, fuel, output, work);
     RunAnswer {
         number: 0,
         place: 0,
         ending: done.ending,
         steps: done.steps,
-        root_type: done.root_type,
+        root_type: root as u32,
         written: done.written,
         replaced: done.replaced,
     }

@@ -6,7 +6,6 @@ use Rattle.rules.specs.Terms.{Term}
 use Rattle.rules.specs.Format.{Record}
 use Rattle.rules.specs.Run.{outcome_of, run}
 use Rattle.records.specs.View.{entries_in}
-use Rattle.numbering.specs.declared.Ordered.{Ordered}
 use Rattle.steps.specs.declared.state.State.{State}
 use Rattle.steps.specs.Output.{CanWriteOut, WritesOut}
 use Rattle.running.specs.declared.Completion.{Completion}
@@ -20,18 +19,18 @@ module _ (table : List ℕ) (types : ℕ) (rs : List Record) (s : State) (out : 
   finish_writes =
       let stopped = (ro.does h.run.term h.run.holds).stopped in
       record {
+        rules = entries_in table;
         term = stopped.last;
         runs = stopped.runs;
-        good = h.good;
         entries = h.entries;
         some_types = h.some_types;
         few_types = h.few_types;
         room = h.room;
       }
 
-  module _ (e : ℕ) (co : Concludes q.state e) (out' : List ℕ) (w : Ordered) (wo : WritesOut table types rs₁ q.state out out' w) where
+  module _ (e : ℕ) (co : Concludes q.state e) (out' : List ℕ) (w : ℕ) (wo : WritesOut table types rs₁ q.state out out' w) where
     abbrev completion : Completion
-    completion = record { ending = e; steps = q.state.steps; replaced = q.replaced; root_type = w.root; written = w.length }
+    completion = record { ending = e; steps = q.state.steps; replaced = q.replaced; written = w }
 
     pub finish_done : Finishes table fuel rs s out out' completion
     finish_done = record { does = λ first k. go first (ro.does first k) }
@@ -39,8 +38,8 @@ module _ (table : List ℕ) (types : ℕ) (rs : List Record) (s : State) (out : 
         go : (first : Term) → Halts (entries_in table) fuel first rs₁ q → Finished (entries_in table) out out' (run (entries_in table) fuel first) completion
         go first d =
             let c = co.does (entries_in table) fuel first rs₁ d.stopped in
-            let b = wo.does d.stopped.last d.stopped.runs in
+            let b = wo.does (entries_in table) d.stopped.last d.stopped.runs in
             subst (λ x. Finished (entries_in table) out out' (outcome_of x) completion) (sym c.is)
-            (record { ending = c.number; steps = d.stopped.counted; replaced = d.total; root = b.root; written = b.end; bytes = b.bytes })
+            (record { ending = c.number; steps = d.stopped.counted; replaced = d.total; written = b.end; bytes = b.bytes })
 
 pub ruleset finishing = (finish_writes, finish_done)

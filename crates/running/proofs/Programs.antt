@@ -75,7 +75,6 @@ module _ (edition : Edition) (p out work : List ℕ) (h : CanRunProgram edition 
           none = st.steps;
           unlike = rw (← table_is) (unlike (table_of p) m.layout.form.entries);
         };
-        good = rw (← table_is) m.layout.form.entries;
         entries = table_long;
         some_types = omega (arith, eT, m.layout.counts.0);
         few_types = omega (arith, eT, m.layout.counts.0);

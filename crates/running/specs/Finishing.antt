@@ -1,10 +1,8 @@
 -- A run from its first state to the bytes that it writes.
 use Rattle.std.specs.Prelude.{ℕ, ◌*◌, ◌≤◌, List, ◌≡◌, length}
-use Rattle.rules.specs.Terms.{Term, type_of}
+use Rattle.rules.specs.Terms.{Term}
 use Rattle.rules.specs.Types.{Table}
 use Rattle.rules.specs.Format.{Record}
-use Rattle.rules.specs.FullTypes.{GoodEntries}
-use Rattle.rules.specs.Order.{written_term}
 use Rattle.rules.specs.Run.{Outcome, ending_number, run, output, written_over, output_needed}
 use Rattle.records.specs.View.{entries_in}
 use Rattle.steps.specs.declared.state.State.{State}
@@ -12,10 +10,9 @@ use Rattle.steps.specs.Stepping.{HoldsTerm}
 use Rattle.running.specs.declared.Completion.{Completion}
 use Rattle.running.specs.Looping.{CanRun}
 
--- The state holds the first term, the table has good entries, as many as `types` says, and the output has room for the largest program.
+-- The state holds the first term, the table has as many entries as `types` says, and the output has room for the largest program.
 pub record CanFinish (table : List ℕ) (types : ℕ) (rs : List Record) (s : State) (out : List ℕ) : Type 0 where
   pub run : CanRun (entries_in table) rs s
-  pub good : GoodEntries (entries_in table)
   pub entries : length table ≡ 6 * types
   pub some_types : 1 ≤ types
   pub few_types : types ≤ 256
@@ -26,7 +23,6 @@ pub record Finished (types : Table) (out out' : List ℕ) (o : Outcome) (r : Com
   pub ending : r.ending ≡ ending_number o.ending
   pub steps : r.steps ≡ o.steps
   pub replaced : r.replaced ≡ o.replaced
-  pub root : r.root_type ≡ type_of (written_term types o.last)
   pub written : r.written ≡ length (output types o.last)
   pub bytes : out' ≡ written_over out (output types o.last)
 

@@ -47,14 +47,12 @@ fn ending_of(s: State) -> u32
     if s.stopped { 3 } else { 2 }
 }
 
-// What a run came to: the number of its ending, the steps made, how many variables gave way in them, the root's type in the written table, and the bytes
-// written.
+// What a run came to: the number of its ending, the steps made, how many variables gave way in them, and the bytes written.
 #[derive(Drop)]
 pub struct Completion {
     pub ending: u32,
     pub steps: u32,
     pub replaced: u64,
-    pub root_type: u32,
     pub written: u32,
 }
 
@@ -78,8 +76,7 @@ fn finish(
         ending,
         steps: last.steps,
         replaced: halted.replaced,
-        root_type: written.root as u32,
-        written: written.length as u32,
+        written: written as u32,
     }
 }
 

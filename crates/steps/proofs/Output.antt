@@ -9,17 +9,13 @@ use Rattle.rules.specs.Terms.{Term}
 use Rattle.rules.specs.Types.{Table}
 use Rattle.rules.specs.Format.{Record}
 use Rattle.rules.proofs.Laid.{size_some}
-use Rattle.order.proofs.Used.{named_entries}
-use Rattle.records.specs.View.{entries_in}
 use Rattle.contexts.specs.Contexts.{Context, left_size}
 use Rattle.zipper.specs.declared.focus.Focus.{Focus}
 use Rattle.zipper.specs.declared.focus.Ahead.{Ahead}
 use Rattle.navigation.specs.declared.ascending.Turn.TheVariants.{Next, Value, Redex, Match}
 use Rattle.zipper.specs.Focusing.{LaidAt, HasAhead, Brings, CanCloseAll, ClosesAll}
 use Rattle.navigation.specs.Ascending.{Held, Sought, valued, redex, matched}
-use Rattle.writing.specs.Program.{ProgramFits}
-use Rattle.numbering.specs.declared.Ordered.{Ordered}
-use Rattle.numbering.specs.InOrder.{OrderFits, CanWriteInOrder, WritesInOrder}
+use Rattle.writing.specs.Program.{ProgramFits, CanWriteProgram, WritesProgram}
 use Rattle.steps.specs.declared.state.State.{State}
 use Rattle.steps.specs.Stepping.{Runs, HasRun}
 use Rattle.steps.specs.Output.{LaidOut, Settles, CanWriteOut, WritesOut}
@@ -60,21 +56,21 @@ pub ruleset settling = (settle_brings, settle_brought, settle_value, settle_rede
 
 module _ (table : List ℕ) (types : ℕ) (rs : List Record) (s : State) (out : List ℕ) (h : CanWriteOut table types rs s out) where
   pub out_settles : HasRun rs s
-  out_settles = record { types = entries_in table; term = h.term; runs = h.runs }
+  out_settles = record { types = h.rules; term = h.term; runs = h.runs }
 
   module _ (rs₁ : List Record) (z : Focus) (st : Settles rs rs₁ s z) where
     pub out_closes : CanCloseAll rs₁ z
-    out_closes = let k = st.does (entries_in table) h.term h.runs in record { types = entries_in table; context = k.context; focus = k.focus; laid = k.laid; typed = rw k.same k.typed }
+    out_closes = let k = st.does h.rules h.term h.runs in record { types = h.rules; context = k.context; focus = k.focus; laid = k.laid; typed = rw k.same k.typed }
 
     module _ (rs₂ : List Record) (w : Focus) (cl : ClosesAll rs₁ rs₂ z w) where
-      laid_whole : (t : Term) → Runs (entries_in table) rs s t → LaidAt rs₂ w [] t
-      laid_whole t r = let k = st.does (entries_in table) t r in rw k.same at (cl.does (entries_in table) k.context k.focus k.laid (rw k.same k.typed))
+      laid_whole : (rules : Table) (t : Term) → Runs rules rs s t → LaidAt rs₂ w [] t
+      laid_whole rules t r = let k = st.does rules t r in rw k.same at (cl.does rules k.context k.focus k.laid (rw k.same k.typed))
 
-      fits_out : (t : Term) → Runs (entries_in table) rs s t → ProgramFits table types rs₂ 0 w.l out t
+      fits_out : (rules : Table) (t : Term) → Runs rules rs s t → ProgramFits table types rs₂ 0 w.l out t
       unfolding left_size
-      fits_out t r =
-          let k = laid_whole t r in
-          let few = runs_few (entries_in table) rs s t r in
+      fits_out rules t r =
+          let k = laid_whole rules t r in
+          let few = runs_few rules rs s t r in
           let at_zero : w.s ≡ 0 = k.around.start in
           record {
             entries = h.entries;
@@ -87,22 +83,19 @@ module _ (table : List ℕ) (types : ℕ) (rs : List Record) (s : State) (out : 
             room = omega (arith, k.end, at_zero, h.few_types, h.room);
           }
 
-      order_fits : (t : Term) → Runs (entries_in table) rs s t → OrderFits table types rs₂ w.l out t
-      order_fits t r = record { good = h.good; named = named_entries (entries_in table) [] 0 t (st.does (entries_in table) t r).typed; fits = fits_out t r }
-
       pub out_length_lem : Fits w16 w.l
-      out_length_lem = omega (arith, (fits_out h.term h.runs).few)
+      out_length_lem = omega (arith, (fits_out h.rules h.term h.runs).few)
 
-      pub out_fits : CanWriteInOrder table types rs₂ w.l out
-      out_fits = record { tree = h.term; can = order_fits h.term h.runs }
+      pub out_fits : CanWriteProgram table types rs₂ 0 w.l out
+      out_fits = record { tree = h.term; can = fits_out h.rules h.term h.runs }
 
-      pub out_written : (out' : List ℕ) (r : Ordered) → WritesInOrder table types rs₂ w.l out out' r → WritesOut table types rs s out out' r
+      pub out_written : (out' : List ℕ) (r : ℕ) → WritesProgram table types rs₂ 0 w.l out out' r → WritesOut table types rs s out out' r
       out_written out' r d =
-          let fits = order_fits h.term h.runs in
-          let few = runs_few (entries_in table) rs s h.term h.runs in
+          let fits = fits_out h.rules h.term h.runs in
+          let few = runs_few h.rules rs s h.term h.runs in
           record {
-            does = λ t k. rw (fits_out t k).size_is (d.does t (order_fits t k));
-            short = omega (arith, (d.does h.term fits).short, fits.fits.size_is, h.few_types);
+            does = λ rules t k. rw (fits_out rules t k).size_is (d.does t (fits_out rules t k));
+            short = omega (arith, (d.does h.term fits).long, fits.size_is, h.few_types);
           }
 
 pub ruleset putting_out = (out_settles, out_closes, out_length_lem, out_fits, out_written)

@@ -4,14 +4,11 @@ use Rattle.rules.specs.Terms.{Term, size}
 use Rattle.rules.specs.Types.{Table}
 use Rattle.rules.specs.Typing.{Typed}
 use Rattle.rules.specs.Format.{Record}
-use Rattle.rules.specs.FullTypes.{GoodEntries}
 use Rattle.rules.specs.Run.{output_needed}
-use Rattle.records.specs.View.{entries_in}
 use Rattle.contexts.specs.Contexts.{Context, plug}
 use Rattle.zipper.specs.declared.focus.Focus.{Focus}
 use Rattle.zipper.specs.Focusing.{LaidAt}
-use Rattle.numbering.specs.declared.Ordered.{Ordered}
-use Rattle.numbering.specs.InOrder.{WroteInOrder}
+use Rattle.writing.specs.Program.{WroteProgram}
 use Rattle.steps.specs.declared.state.State.{State}
 use Rattle.steps.specs.Stepping.{Runs}
 
@@ -26,16 +23,16 @@ pub record LaidOut (types : Table) (rs : List Record) (z : Focus) (t : Term) : T
 pub record Settles (rs rs' : List Record) (s : State) (r : Focus) : Type 0 where
   pub does : (types : Table) (t : Term) → Runs types rs s t → LaidOut types rs' r t
 
--- The state holds a term of the table, whose entries are good and as many as `types` says, and the output has room for the largest program.
+-- The state holds a term, the table has as many entries as `types` says, and the output has room for the largest program.
 pub record CanWriteOut (table : List ℕ) (types : ℕ) (rs : List Record) (s : State) (out : List ℕ) : Type 0 where
+  pub rules : Table
   pub term : Term
-  pub runs : Runs (entries_in table) rs s term
-  pub good : GoodEntries (entries_in table)
+  pub runs : Runs rules rs s term
   pub entries : length table ≡ 6 * types
   pub some_types : 1 ≤ types
   pub few_types : types ≤ 256
   pub room : output_needed ≤ length out
 
-pub record WritesOut (table : List ℕ) (types : ℕ) (rs : List Record) (s : State) (out out' : List ℕ) (r : Ordered) : Type 0 where
-  pub does : (t : Term) → Runs (entries_in table) rs s t → WroteInOrder table types (size t) out out' t r
-  pub short : r.length ≤ output_needed
+pub record WritesOut (table : List ℕ) (types : ℕ) (rs : List Record) (s : State) (out out' : List ℕ) (r : ℕ) : Type 0 where
+  pub does : (rules : Table) (t : Term) → Runs rules rs s t → WroteProgram table types (size t) out out' t r
+  pub short : r ≤ output_needed

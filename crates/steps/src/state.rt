@@ -8,7 +8,6 @@ ghost use Rattle.steps.specs.Output.{Settles, CanWriteOut, WritesOut};
 use crate::events::Event;
 use contraction::Plan;
 use navigation::Turn;
-use numbering::Ordered;
 use seeking::seek_from;
 use zipper::{Ahead, Focus};
 
@@ -182,13 +181,13 @@ impl State {
         }
     }
 
-    // Closes every frame, writes the term as a program, its table of `types` entries in order of use, and tells its length and its root's type.
-    pub fn write_out(self, table: &[u8], types: u16, work: &mut [u8], out: &mut [u8]) -> Ordered
+    // Closes every frame, writes the table of `types` entries and the term as a program, and tells its length.
+    pub fn write_out(self, table: &[u8], types: u16, work: &mut [u8], out: &mut [u8]) -> usize
         requires { CanWriteOut table.now types (records_in work.old) self out.old }
         ensures { WritesOut table.now types (records_in work.old) self out.old out.new result }
     {
         let z = self.settle(work);
         let whole = zipper::close_all(work, z);
-        numbering::write_in_order(table, types, work, whole.l as u16, out)
+        writing::write_program(table, types, work, 0, whole.l as u16, out)
     }
 }

@@ -42,7 +42,7 @@ pub record CanWriteProgram (table : List ℕ) (types : ℕ) (ws : List Record) (
   pub tree : Term
   pub can : ProgramFits table types ws i count s tree
 
--- The table that is handed over and the term are written: "Output beyond that length is unchanged."
+-- "It writes the same type table and the last term .. Output beyond that length is unchanged."
 pub record WroteProgram (table : List ℕ) (types count : ℕ) (s s' : List ℕ) (t : Term) (r : ℕ) : Type 0 where
   pub bytes : s' ≡ written_over s (written (entries_in table) t)
   pub end : r ≡ length (written (entries_in table) t)

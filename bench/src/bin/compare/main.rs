@@ -1,6 +1,5 @@
 //! compare [SEED [COUNT]]: gives generated inputs to the engine and to the reference, COUNT to check and run and COUNT others to infer, and compares
-//! all that they answer and write. What the engine writes is given to it again, and so is each accepted program under another table.
-mod again; // what is written, and other tables
+//! all that they answer and write.
 mod buffers; // what calls are lent
 mod infers; // infer
 mod runs; // check and run
@@ -53,31 +52,27 @@ struct Comparison {
 impl Comparison {
     fn run(&mut self, seed: u64, input: u64) {
         let case = runs::Case::new(seed, input);
-        if let Err(mismatch) = runs::compare(&case, &mut self.buffers, &mut self.runs) {
-            self.mismatch(&format!("mismatch-{seed}-{input}.bin"), &mismatch);
+        if let Err(what) = runs::compare(&case, &mut self.buffers, &mut self.runs) {
+            let bytes = [&case.fuel.to_le_bytes()[..], &case.program].concat();
+            self.mismatch(&keep(&format!("mismatch-{seed}-{input}.bin"), &bytes), &what);
         }
     }
 
     fn infer(&mut self, seed: u64, input: u64) {
         let case = infers::Case::new(seed, input);
-        if let Err(mismatch) = infers::compare(&case, &mut self.buffers, &mut self.infers) {
-            self.mismatch(&format!("mismatch-infer-{seed}-{input}.bin"), &mismatch);
+        if let Err(what) = infers::compare(&case, &mut self.buffers, &mut self.infers) {
+            let what = format!("{what}; --output {} --work {}", case.lent.output, case.lent.work);
+            self.mismatch(&keep(&format!("mismatch-infer-{seed}-{input}.bin"), &case.program), &what);
         }
     }
 
-    fn mismatch(&mut self, name: &str, mismatch: &Mismatch) {
+    fn mismatch(&mut self, kept: &str, what: &str) {
         self.mismatches += 1;
-        println!("{}: {}", keep(name, &mismatch.input), mismatch.what);
+        println!("{kept}: {what}");
     }
 }
 
-/// What is wrong, and the input that shows it: for run in the form that the listing program reads, for infer the program.
-struct Mismatch {
-    what: String,
-    input: Vec<u8>,
-}
-
-/// Writes an input. Gives the file's name.
+/// Writes a case's input: for run in the form that the listing program reads, for infer the program. Gives the file's name.
 fn keep(name: &str, bytes: &[u8]) -> String {
     let folder = Path::new(env!("CARGO_MANIFEST_DIR")).join("../target/bench");
     match std::fs::create_dir_all(&folder).and_then(|()| std::fs::write(folder.join(name), bytes)) {

@@ -22,8 +22,8 @@ write_filled_spec =
     (λ c. search (written_laws, rules))  -- slice-aggregate-write-typed-2
     (λ c κs. search (written_laws, rules))  -- write-typed-requires
     (λ c. search (written_laws, rules))  -- cast-t26
-    (λ c. search (length_short, c.before.before.before.before.before.before.write-typed.ensures, c.before.before.before.before.before.before.before.before.before.before.before.before.before.before.before.before.before.before.before.before.requires))  -- cast-t27
+    (λ c. search (length_short, c.before.before.before.before.before.write-typed.ensures, c.before.before.before.before.before.before.before.before.before.before.before.before.before.before.before.before.before.before.before.requires))  -- cast-t27
     (λ c. search (written_laws, rules))  -- same-length
     (λ c. search (written_laws, rules))  -- same-length-2
-    (λ c. search (type_written_lem, c.before.before.before.before.before.before.write-typed.ensures, c.before.before.before.before.before.before.before.before.before.before.before.before.before.before.before.before.before.before.before.before.requires))  -- returns
+    (λ c. search (type_written_lem, c.before.before.before.before.before.write-typed.ensures, c.before.before.before.before.before.before.before.before.before.before.before.before.before.before.before.before.before.before.before.requires))  -- returns
     )

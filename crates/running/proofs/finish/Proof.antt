@@ -10,8 +10,7 @@ finish_spec =
     (λ c κs. search (finishing, rules))  -- run-steps-requires
     (λ c κs. search (finishing, rules))  -- ending-of-requires
     (λ c κs. search (finishing, rules))  -- write-out-requires
-    (λ c. search (finishing, rules))  -- cast-t18
-    (λ c. search (finishing, rules))  -- cast-t19
+    (λ c. search (finishing, rules))  -- cast-t17
     (λ c. search (finishing, rules))  -- same-length
     (λ c. search (finishing, rules))  -- same-length-2
     (λ c. search (finishing, rules))  -- returns

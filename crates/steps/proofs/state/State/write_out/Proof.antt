@@ -9,8 +9,8 @@ write_out_spec =
     tie.close (tie.spec
     (λ c κs. search (putting_out, rules))  -- settle-requires
     (λ c κs. search (putting_out, rules))  -- close-all-requires
-    (λ c. search out_length_lem)  -- cast-write-in-order
-    (λ c κs. search (putting_out, rules))  -- write-in-order-requires
+    (λ c. search out_length_lem)  -- cast-write-program
+    (λ c κs. search (putting_out, rules))  -- write-program-requires
     (λ c. search (putting_out, rules))  -- same-length
     (λ c. search (putting_out, rules))  -- same-length-2
     (λ c. search (putting_out, rules))  -- returns

@@ -1,2 +1,0 @@
--- The order of use over types in full: what the proofs go through.
-pub mod OrderInFull

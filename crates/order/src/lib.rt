@@ -1,1 +1,0 @@
-// Tables in order of use, document 02's N4: definitions of proofs, and theorems. No code.
