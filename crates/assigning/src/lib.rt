@@ -1,5 +1,7 @@
 // The type of one record whose children have theirs: the one type that it can have, made from its kind, fields, binders and children's types, and then
 // judged as check judges a written one. A type that the table lacks is appended to it.
+#![tactic(auto)]
+
 ghost use Rattle.std.specs.Prelude.{◌*◌, ◌≤◌, ◌≡◌, length};
 ghost use Rattle.rules.specs.Kinds.{kind_of};
 ghost use Rattle.inference.specs.Inference.{fault_in};
@@ -14,7 +16,7 @@ use refusals::Verdict;
 use tables::Held;
 
 // The type that a record must have, if it can have one: a number that is known, or the number of an entry that is made.
-#[derive(Drop)]
+#[derive(Clone, Copy)]
 pub enum Candidate {
     Known(u16),
     Made(Entry),
@@ -133,7 +135,7 @@ fn fault(
 }
 
 // What becomes of a record: its fault or none, its type, and how many entries the table has that has that type.
-#[derive(Drop)]
+#[derive(Clone, Copy)]
 pub struct Assigned {
     pub number: u16,
     pub place: u16,

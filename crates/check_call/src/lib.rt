@@ -1,4 +1,6 @@
 // The check call, for programs of the first edition. It has no condition: any bytes get an answer, and the contract fixes every field of it.
+#![tactic(auto)]
+
 ghost use Rattle.std.specs.Prelude.{◌≡◌};
 ghost use Rattle.rules.specs.Editions.{first_edition};
 ghost use Rattle.rules.specs.Format.{records_of};
@@ -9,7 +11,7 @@ ghost use Rattle.check_call.specs.Answers.{check_meant};
 // What check says of a program: passed, with number and place 0, the root's type and the number of records; or refused, with document 01's
 // number and place and the other fields 0.
 #[repr(C)]
-#[derive(Drop)]
+#[derive(Clone, Copy)]
 pub struct CheckAnswer {
     pub number: u32,
     pub place: u32,

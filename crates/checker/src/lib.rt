@@ -1,5 +1,7 @@
 // Check's refusals, 3 to 12, in document 01's order, and those of a program's layout alone, 3 to 9 with document 02's 13, where types are
 // omitted. The first check that refuses is the answer.
+#![tactic(auto)]
+
 ghost use Rattle.std.specs.Prelude.{◌≡◌, length};
 ghost use Rattle.rules.specs.Conditions.{holds};
 ghost use Rattle.kinds.specs.Meant.{edition_meant, type_fields_meant};

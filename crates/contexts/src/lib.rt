@@ -1,1 +1,2 @@
 // Evaluation contexts: definitions and theorems, and no code so far.
+#![tactic(auto)]

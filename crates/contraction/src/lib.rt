@@ -1,4 +1,6 @@
 // Contraction: what a redex becomes, by the places of trees.
+#![tactic(auto)]
+
 mod bodies; // a body whose variables give way
 mod making; // the contractum, measured and made
 mod plans; // what a redex becomes, as a value

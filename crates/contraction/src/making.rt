@@ -5,7 +5,7 @@ ghost use Rattle.contraction.specs.Making.{CanMeasure, TellsFits, CanMake, Makes
 use crate::plans::Plan;
 
 // A contractum that is made: its place, how many records it has, and how many variables gave way.
-#[derive(Drop)]
+#[derive(Clone, Copy)]
 pub struct Block {
     pub at: usize,
     pub size: usize,

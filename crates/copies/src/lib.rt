@@ -1,4 +1,6 @@
 // Copies of trees in which indices move or the uses of a variable are wrapped, with the measures of the copies. Substitution is made of them.
+#![tactic(auto)]
+
 mod copying; // what copies have in common
 mod raising; // copies with their indices raised
 mod wrapping; // copies with uses of a variable wrapped

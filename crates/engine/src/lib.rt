@@ -1,4 +1,6 @@
 // The public calls, which the crates `check_call`, `infer_call` and `run_call` make, and their entries for C. None has a condition.
+#![tactic(auto)]
+
 ghost use Rattle.std.specs.Prelude.{◌≡◌};
 ghost use Rattle.rules.specs.Editions.{first_edition};
 ghost use Rattle.rules.specs.Check.{check_answer};

@@ -1,4 +1,6 @@
 // Refusals 6, 7 and 13: the type entries, the records' fields, and types that are written where they are to be omitted. Each is a scan that stops at the lowest fault.
+#![tactic(auto)]
+
 ghost use Rattle.std.specs.Prelude.{◌≡◌, ◌-◌, ◌*◌, ◌≤◌, ◌<◌, length, eqb};
 ghost use Rattle.rules.specs.Conditions.{between, same_entry, met, holds};
 ghost use Rattle.rules.specs.FieldUses.{omitted};

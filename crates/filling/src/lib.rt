@@ -1,12 +1,14 @@
 // The walk that gives each record of a tree its type, children first, in chain order. It calls itself on each child's tree with the records left as
 // the falling number. The binders over a record stand in a lent array, used as a stack; the table grows in a lent buffer; the types are kept by
 // the record's number in preorder, so that a tree's are together.
+#![tactic(auto)]
+
 ghost use Rattle.records.specs.View.{entries_in, records_in};
 ghost use Rattle.filling.specs.Filling.{CanFill, Fills, CanFillChild, FillsChild, CanSettle, Settles, CanFillAll, FillsAll};
 
 // How far the walk has come: the fault that was found, or 0 and 0; how many entries the table has; the type of the tree that was walked last, 0 for
 // none; and how many records are left.
-#[derive(Drop)]
+#[derive(Clone, Copy)]
 pub struct Progress {
     pub number: u16,
     pub place: u16,

@@ -1,6 +1,8 @@
 // The infer call, for programs of the first edition whose types are omitted. It has no condition: any bytes and buffers get an answer, and the contract
 // fixes every field of it and every byte of the output. What it keeps for itself until it knows that the program is accepted, the types and the
 // growing table, stands in local arrays.
+#![tactic(auto)]
+
 ghost use Rattle.std.specs.Prelude.{◌≡◌};
 ghost use Rattle.infer_call.specs.Answers.{infer_meant, refused_by, CanType, CanTypeWith, CanWriteFilled, Types, Inferred};
 
@@ -14,7 +16,7 @@ const RECORDS: usize = kinds::MOST_RECORDS as usize;
 // What infer answers. Accepted: number and place are 0, the root's type and the written length. Refused: the number and place of documents 01 and 02,
 // and the other fields 0.
 #[repr(C)]
-#[derive(Drop)]
+#[derive(Clone, Copy)]
 pub struct InferAnswer {
     pub number: u32,
     pub place: u32,

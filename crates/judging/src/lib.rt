@@ -2,6 +2,8 @@
 // Each kind has a type rule of its own, and kinds 2 and 10 ask something of their binder: for these the kind's number is matched here. Which field
 // is an index and at which levels a kind may stand are asked of the tables of `kinds`. The kind is a number beside the record's fields, so that a
 // caller who names it by a literal gets the code of that kind's rules alone.
+#![tactic(auto)]
+
 ghost use Rattle.std.specs.Prelude.{◌≤◌, length};
 ghost use Rattle.rules.specs.Kinds.{match_application, match_function, match_fix};
 ghost use Rattle.rules.specs.Types.{Nat, Fn, Code};
@@ -13,7 +15,7 @@ ghost use Rattle.judging.specs.Tests.{IsBinder, Tests, EntryTest, match_children
 use kinds::both;
 
 // The level of a binder's variable, and its type.
-#[derive(Drop)]
+#[derive(Clone, Copy)]
 pub struct Binder {
     pub level: u16,
     pub ty: u16,

@@ -4,7 +4,7 @@ ghost use Rattle.rules.specs.Editions.{first_edition};
 ghost use Rattle.kinds.specs.Meant.{edition_meant};
 
 // An edition's kinds are numbered from 1 to its last.
-#[derive(Drop)]
+#[derive(Clone, Copy)]
 pub struct Edition {
     pub last_kind: u16,
 }

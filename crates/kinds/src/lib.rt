@@ -1,5 +1,7 @@
 // The tables of the kinds, by the kind's number: code asks these. The type rules (`judging`) and the step rules (`contraction`, `matching`), which are each
 // kind's own, are matched by that number where they stand. A number that no kind has is answered as kind 1, as `kind_of` says.
+#![tactic(auto)]
+
 mod bounds; // how many types and records a program may have
 mod conditions; // the tests of conditions
 mod editions; // what a program may use

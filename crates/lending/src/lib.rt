@@ -1,4 +1,6 @@
 // Refusals 1 and 2: the lengths of the output and work buffers that a call is lent.
+#![tactic(auto)]
+
 ghost use Rattle.rules.specs.Run.{buffers_refusal};
 ghost use Rattle.refusals.specs.Tells.{Tells};
 

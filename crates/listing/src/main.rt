@@ -1,5 +1,7 @@
 // The listing program: reads 4 bytes of fuel and a program from standard input, and prints the listing. What is read is more than any program
 // has, so that a longer input too is refused by its length. An input that can't be read is no short one: a further read tells the two apart.
+#![tactic(auto)]
+
 use libc::STDIN_FILENO;
 
 fn main() {

@@ -1,5 +1,7 @@
 // The text of a listing, made in a buffer that the caller lends: a first line, and a line for each record.
 // Each function writes its part from place `at` on, leaves the other bytes, and returns the place after it.
+#![tactic(auto)]
+
 ghost use Rattle.std.specs.Prelude.{[], ◌∷◌, ◌<◌};
 ghost use Rattle.records.specs.View.{records_in};
 ghost use Rattle.records.specs.Meant.{record_meant};

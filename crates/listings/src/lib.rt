@@ -1,4 +1,6 @@
 // The listing of an input, 4 bytes of fuel and a program.
+#![tactic(auto)]
+
 ghost use Rattle.listing_text.specs.Buffers.{Prints};
 ghost use Rattle.listings.specs.Listing.{listing_of};
 ghost use Rattle.listings.specs.Lent.{Lent};

@@ -1,4 +1,6 @@
 // What a match becomes. It is open: its code stands behind its record, and its success and its failure stand elsewhere, one after the other.
+#![tactic(auto)]
+
 ghost use Rattle.records.specs.View.{entries_in, records_in};
 ghost use Rattle.records.specs.Places.{Within};
 ghost use Rattle.matching.specs.Matches.{IsOpened, HasApplication, SecondType, HasCode, TellsMatch, CanSucceed, PlansSuccess, HasMatch, TellsMatchRule, CanPlanMatch, PlansMatch};

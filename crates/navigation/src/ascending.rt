@@ -14,7 +14,7 @@ use zipper::{Ahead, Focus, bring, children_after, close, open_ahead};
 
 // Where a focus that is done leads: a next focus, which is to be searched; or "the term is a value"; or a record that is rewritten, at its
 // level. A match that is rewritten stays open: its code is the focus.
-#[derive(Drop)]
+#[derive(Clone, Copy)]
 pub enum Turn {
     Next(Ahead),
     Value(Focus),

@@ -1,4 +1,6 @@
 // Prints the listing of an input to standard output, and tells whether all of it was written.
+#![tactic(auto)]
+
 use libc::STDOUT_FILENO;
 
 pub fn print_listing(input: &[u8]) -> bool {

@@ -1,5 +1,7 @@
 // Little-endian fields, type entries of 6 bytes and records of 16 bytes in a slice of bytes: read and written by value.
 // The contracts say what the bytes mean by the definitions of `rules`; a caller knows a slice as a list of entries or records.
+#![tactic(auto)]
+
 ghost use Rattle.std.specs.Prelude.{◌≡◌, ◌+◌, ◌*◌, ◌<◌, ◌≤◌, length, get_or, drop};
 ghost use Rattle.rules.specs.Terms.{number_held};
 ghost use Rattle.rules.specs.Types.{no_entry};
@@ -10,7 +12,7 @@ ghost use Rattle.records.specs.Meant.{entry_meant, record_meant};
 ghost use Rattle.records.specs.Places.{Within, IsEntry, IsRecord, InChain, Follows};
 
 // A record of the program form.
-#[derive(Drop)]
+#[derive(Clone, Copy)]
 pub struct Record {
     pub kind: u16,
     pub ty: u16,
@@ -22,7 +24,7 @@ pub struct Record {
 }
 
 // An entry of the type table.
-#[derive(Drop)]
+#[derive(Clone, Copy)]
 pub struct Entry {
     pub kind: u16,
     pub a: u16,

@@ -1,4 +1,6 @@
 // Where the next step of a term is made: the finders of level 0 and of level 1.
+#![tactic(auto)]
+
 ghost use Rattle.std.specs.Prelude.{◌≡◌};
 ghost use Rattle.records.specs.View.{records_in};
 ghost use Rattle.terms.specs.Preorder.{HasTree};
@@ -6,7 +8,7 @@ ghost use Rattle.redexes.specs.Finding.{or_here, CanFind, Finds, SpliceBelow, Fi
 ghost use Rattle.redexes.specs.Descent.{HasUnwritten, HasRewritten, LastStepped};
 
 // What a search of a tree finds: nothing to step, and the place after the tree; or the place of the record that the rules rewrite.
-#[derive(Drop)]
+#[derive(Clone, Copy)]
 pub enum Found {
     Done(usize),
     Redex(usize),

@@ -1,4 +1,6 @@
 // A refusal by value, as the checks hand it on: its number and place, or both 0 where nothing is refused.
+#![tactic(auto)]
+
 ghost use Rattle.std.specs.Prelude.{◌≤◌};
 ghost use Rattle.std.proofs.Math.Option.{none, some};
 ghost use Rattle.refusals.specs.Tells.{Tells, refusal_by};
@@ -33,7 +35,7 @@ pub const TYPE_WRITTEN: u16 = 13;
 
 pub const TABLE_FULL: u16 = 14;
 
-#[derive(Drop)]
+#[derive(Clone, Copy)]
 pub struct Verdict {
     pub number: u16,
     pub place: u16,

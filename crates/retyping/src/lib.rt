@@ -1,4 +1,6 @@
 // A program whose types are omitted, written with the types that are given for its records in preorder.
+#![tactic(auto)]
+
 ghost use Rattle.std.specs.Prelude.{◌≤◌, length};
 ghost use Rattle.records.specs.View.{records_in};
 ghost use Rattle.retyping.specs.Retyping.{PutsTypes, CanWriteTyped, WritesTyped};

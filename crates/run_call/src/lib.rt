@@ -1,5 +1,7 @@
 // The run call, for programs of the first edition. It has no condition: any bytes, fuel and buffers get an answer, and the contract fixes every
 // field of it and every byte of the output.
+#![tactic(auto)]
+
 ghost use Rattle.std.specs.Prelude.{◌≡◌};
 ghost use Rattle.rules.specs.Editions.{first_edition};
 ghost use Rattle.rules.specs.Run.{refused};
@@ -10,7 +12,7 @@ ghost use Rattle.run_call.specs.Answers.{run_meant, Accepted, Ran};
 // root's type, the written length, and how many variables gave way in all the steps, which can pass 32 bits. Refused: document 01's number and place,
 // and the other fields 0.
 #[repr(C)]
-#[derive(Drop)]
+#[derive(Clone, Copy)]
 pub struct RunAnswer {
     pub number: u32,
     pub place: u32,

@@ -1,4 +1,6 @@
 // The run of a program that is passed: its first term, steps until a value, spent fuel or a full table, and what is written then.
+#![tactic(auto)]
+
 ghost use Rattle.rules.specs.Editions.{first_edition};
 ghost use Rattle.records.specs.View.{entries_in, records_in};
 ghost use Rattle.running.specs.Looping.{CanRun, RunsOut, Concludes};
@@ -8,7 +10,7 @@ ghost use Rattle.running.specs.Programs.{CanRunProgram, RunsProgram};
 use steps::State;
 
 // Where a run halts: its last state, and how many variables gave way in all its steps.
-#[derive(Drop)]
+#[derive(Clone, Copy)]
 struct Halted {
     state: State,
     replaced: u64,
@@ -48,7 +50,7 @@ fn ending_of(s: State) -> u32
 }
 
 // What a run came to: the number of its ending, the steps made, how many variables gave way in them, and the bytes written.
-#[derive(Drop)]
+#[derive(Clone, Copy)]
 pub struct Completion {
     pub ending: u32,
     pub steps: u32,

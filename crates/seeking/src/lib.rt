@@ -1,4 +1,6 @@
 // From a focus that is to be searched to the record that is rewritten next, or to a value. The term stays the same.
+#![tactic(auto)]
+
 ghost use Rattle.records.specs.View.{records_in};
 ghost use Rattle.seeking.specs.Seeking.{CanSeek, Searches, Seeks};
 

@@ -1,4 +1,6 @@
 // The sizes of copies, told before anything is copied.
+#![tactic(auto)]
+
 ghost use Rattle.std.specs.Prelude.{◌≡◌, max};
 ghost use Rattle.rules.specs.Lists.{pick};
 ghost use Rattle.records.specs.View.{records_in};

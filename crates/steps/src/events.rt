@@ -2,7 +2,7 @@
 
 // The rule by its number, the place of the record that was rewritten, the root's being 1, and how many variables gave way. Eight bytes: with six, the
 // compiler keeps every state in memory.
-#[derive(Drop)]
+#[derive(Clone, Copy)]
 pub struct Event {
     pub rule: u16,
     pub place: u16,

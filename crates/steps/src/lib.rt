@@ -1,4 +1,6 @@
 // A run's state, and the step that it makes.
+#![tactic(auto)]
+
 mod events; // the event of a step
 mod state; // the state and its step
 

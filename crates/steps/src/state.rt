@@ -19,7 +19,7 @@ const SLOTS: usize = 4096;
 
 // Where a run stands: at a focus that is to be searched, at a value, or at the record that is rewritten next. `steps` are made, and `event` is that of the
 // last one, all 0 before the first. It is stopped where the next term has more than 2,048 records.
-#[derive(Drop)]
+#[derive(Clone, Copy)]
 pub struct State {
     pub turn: Turn,
     pub stopped: bool,
@@ -28,7 +28,7 @@ pub struct State {
 }
 
 // What becomes of the focus: by which rule, what is planned, the first slot that is free for it, and the hole that it fills.
-#[derive(Drop)]
+#[derive(Clone, Copy)]
 struct Aim {
     rule: u16,
     plan: Plan,

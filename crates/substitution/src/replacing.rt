@@ -16,7 +16,7 @@ use records::Record;
 use terms::{binders_over, mark_root, skip, without};
 
 // The place after a copy, and how many variables gave way in it.
-#[derive(Drop)]
+#[derive(Clone, Copy)]
 pub struct Copied {
     pub end: usize,
     pub replaced: usize,

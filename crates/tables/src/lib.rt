@@ -1,4 +1,6 @@
 // A type table that grows: its first `types` entries of a buffer that has room for more. "A type missing from the table is appended."
+#![tactic(auto)]
+
 ghost use Rattle.std.specs.Prelude.{◌≡◌, take};
 ghost use Rattle.inference.specs.Inference.{before};
 ghost use Rattle.records.specs.View.{entries_in};
@@ -8,7 +10,7 @@ ghost use Rattle.tables.specs.Having.{CanLookUp, CanHave, Has};
 use records::Entry;
 
 // The number of an entry, and how many entries the table has that holds it.
-#[derive(Drop)]
+#[derive(Clone, Copy)]
 pub struct Held {
     pub number: u16,
     pub types: u16,

@@ -1,4 +1,6 @@
 // Terms in a slice of records, each in preorder: the kind gives the number of children, and in place of links a root holds measures of its tree.
+#![tactic(auto)]
+
 mod measuring; // the measures of trees, read and written
 
 ghost use Rattle.std.specs.Prelude.{◌≡◌};

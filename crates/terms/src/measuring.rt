@@ -9,7 +9,7 @@ ghost use Rattle.terms.specs.Measuring.{binders_over, KindIs, BoundIs, PlainIs, 
 use records::Record;
 
 // What is known of a tree and of as many of its children as stand before `end`: how far their free indices reach, and whether they are plain.
-#[derive(Drop)]
+#[derive(Clone, Copy)]
 struct Measure {
     pub end: usize,
     pub bound: u16,

@@ -1,6 +1,8 @@
 // The walk over the tree of a record, in preorder: the first faulty record and its lowest number of 10 to 12. It calls itself on each child's
 // tree with the records left as the falling number. The binders over a record stand in a lent array, used as a stack: what is below the depth
 // is kept.
+#![tactic(auto)]
+
 ghost use Rattle.std.specs.Prelude.{[], ◌∷◌, ◌≡◌, ◌+◌, ◌<◌, ◌≤◌, length};
 ghost use Rattle.rules.specs.Check.{walked};
 ghost use Rattle.records.specs.View.{entries_in, records_in};
@@ -14,7 +16,7 @@ ghost use Rattle.typing.specs.Walking.{CanReadChildren, JudgesRead, JudgesOwn, v
 use records::Record;
 
 // A child of a record, where its tree is walked: its number, its level, and the depth of the binders over it.
-#[derive(Drop)]
+#[derive(Clone, Copy)]
 pub struct Child {
     pub n: u16,
     pub level: u16,

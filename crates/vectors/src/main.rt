@@ -1,11 +1,13 @@
 // Prints the name and the listing of each input that the file `names` names, one name to a line, and then of each that `infers` names what infer
 // answers and writes, and of each that `runs` names what run does.
+#![tactic(auto)]
+
 mod answers; // what infer and run answer and write, as text
 
 use libc::STDOUT_FILENO;
 
 // What is printed of an input.
-#[derive(Drop)]
+#[derive(Clone, Copy)]
 enum Text {
     Listing,
     Infer,

@@ -1,6 +1,8 @@
 // A term written out as a program: the two counts, the type table, and the records in preorder, numbered as they are written.
 // The term is read from a list of records with measures in place of links: a root holds the size of its tree, so that the number of the next
 // sibling is known before a tree is written, and each record is written once.
+#![tactic(auto)]
+
 ghost use Rattle.std.specs.Prelude.{◌+◌, ◌<◌, ◌≤◌, ◌≡◌, length};
 ghost use Rattle.records.specs.Overwritten.{overwritten};
 ghost use Rattle.records.specs.View.{records_in};
@@ -10,7 +12,7 @@ ghost use Rattle.writing.specs.Tree.{CanWrite, Writes};
 ghost use Rattle.writing.specs.Program.{CanWriteRecords, WritesRecords, CanWriteProgram, WritesProgram};
 
 // What is written next: the number of the next record, and the bytes written so far. Only `put` moves it on.
-#[derive(Drop)]
+#[derive(Clone, Copy)]
 pub struct Writer {
     pub number: u16,
     pub length: usize,
@@ -52,7 +54,7 @@ impl Writer {
 }
 
 // What a record's writing leaves: how many children it has, and the state after it.
-#[derive(Drop)]
+#[derive(Clone, Copy)]
 struct Begun {
     pub children: u16,
     pub state: Writer,

@@ -7,7 +7,7 @@ ghost use Rattle.zipper.specs.Focusing.{LinkIs, HasTrees, SkipsAll, HasFrame, Co
 use terms::{kind_at, mark_root, relink, skip};
 
 // A focus before the gap: the records from `s` to `l`. The right side stands from `r` on, and the innermost frame's record is at `top`.
-#[derive(Drop)]
+#[derive(Clone, Copy)]
 pub struct Focus {
     pub s: usize,
     pub l: usize,
@@ -16,7 +16,7 @@ pub struct Focus {
 }
 
 // A focus after the gap, at its level: the left side ends at `l`, and the right side begins with the focus at `r`.
-#[derive(Drop)]
+#[derive(Clone, Copy)]
 pub struct Ahead {
     pub l: usize,
     pub r: usize,

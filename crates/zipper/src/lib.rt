@@ -1,4 +1,6 @@
 // A term laid out around its focus in one buffer.
+#![tactic(auto)]
+
 mod focus; // the focus, and its moves
 mod moving; // a tree that was made becomes the focus
 
