@@ -16,9 +16,9 @@ bits k l = in_range (λ k. 1073567296 / 2 ^ (2 * k) % 4 ≡ child_count (kind_of
 
 pub children_spec : {M : Type 1} → statement M
 children_spec = tie.close (tie.spec
-    (λ c. search rules)  -- mul-result
-    (λ c. search rules)  -- shr-result
-    (λ c. search rules)  -- cast-result
-    (λ c. bits _ c.if1.true)  -- returns
-    (λ c. rest itself itself_one child_count 0 ((3, 14) ∷ []) (omega arith) _ ((λ p q. omega arith), tt))  -- returns-2
+    (λ c. search rules)  -- overflow_mul-result
+    (λ c. search rules)  -- overflow_shr-result
+    (λ c. search rules)  -- overflow_cast-result-then-kind-lt15
+    (λ c. bits _ c.if-kind-lt15.true)  -- returns-then-kind-lt15
+    (λ c. rest itself itself_one child_count 0 ((3, 14) ∷ []) (omega arith) _ ((λ p q. omega arith), tt))  -- returns-else-kind-lt15
     )

@@ -8,9 +8,9 @@ pub entry_at_spec : {M : Type 1} → statement M
 entry_at_spec =
     tie.close (tie.spec
     (λ c κs. search rules)  -- get16-requires
-    (λ c. search rules)  -- add-get16
+    (λ c. search rules)  -- overflow_add-x
     (λ c κs. search rules)  -- get16-requires-2
-    (λ c. search rules)  -- add-get16-2
+    (λ c. search rules)  -- overflow_add-x-2
     (λ c κs. search rules)  -- get16-requires-3
     (λ c. search entry_read)  -- returns
     )

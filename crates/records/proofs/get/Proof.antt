@@ -8,7 +8,7 @@ use Rattle.records.proofs.get.Tie as tie
 pub get_spec : {M : Type 1} → statement M
 get_spec =
     tie.close (tie.spec
-    (λ c. omega (arith, records_room _ _ c.before.requires))  -- mul-record-at
-    (λ c κs. omega (arith, records_room _ _ c.before.requires))  -- record-at-requires
-    (λ c. c.record-at.ensures ∙ sym (records_read _ _ c.before.before.requires))  -- returns
+    (λ c. omega (arith, records_room _ _ c.requires))  -- overflow_mul-i
+    (λ c κs. omega (arith, records_room _ _ c.requires))  -- record_at-requires
+    (λ c. c.record_at.ensures ∙ sym (records_read _ _ c.requires))  -- returns
     )

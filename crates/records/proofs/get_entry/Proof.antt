@@ -8,7 +8,7 @@ use Rattle.records.proofs.get_entry.Tie as tie
 pub get_entry_spec : {M : Type 1} → statement M
 get_entry_spec =
     tie.close (tie.spec
-    (λ c. omega (arith, entries_room _ _ c.before.requires))  -- mul-entry-at
-    (λ c κs. omega (arith, entries_room _ _ c.before.requires))  -- entry-at-requires
-    (λ c. c.entry_at.ensures ∙ sym (entries_read _ _ c.before.before.requires))  -- returns
+    (λ c. omega (arith, entries_room _ _ c.requires))  -- overflow_mul-i
+    (λ c κs. omega (arith, entries_room _ _ c.requires))  -- entry_at-requires
+    (λ c. c.entry_at.ensures ∙ sym (entries_read _ _ c.requires))  -- returns
     )

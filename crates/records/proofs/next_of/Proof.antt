@@ -7,7 +7,7 @@ use Rattle.records.proofs.next_of.Tie as tie
 pub next_of_spec : {M : Type 1} → statement M
 next_of_spec =
     tie.close (tie.spec
-    (λ c. search (placing, rules))  -- returns
-    (λ c κs. search (placing, rules))  -- record-no-requires
-    (λ c. search (placing, rules))  -- returns-2
+    (λ c. search (placing, rules))  -- returns-then-n-eq0
+    (λ c κs. search (placing, rules))  -- record_no-r-requires
+    (λ c. search (placing, rules))  -- returns-then-n-eq0
     )

@@ -9,8 +9,8 @@ use Rattle.records.proofs.put.Tie as tie
 pub put_spec : {M : Type 1} → statement M
 put_spec =
     tie.close (tie.spec
-    (λ c. omega (arith, records_room _ _ c.before.before.requires))  -- mul-put-at
-    (λ c κs. omega (arith, records_room _ _ c.before.before.requires))  -- put-at-requires
-    (λ c. search rules)  -- same-length
+    (λ c. omega (arith, records_room _ _ c.requires))  -- overflow_mul-i
+    (λ c κs. omega (arith, records_room _ _ c.requires))  -- put_at-requires
+    (λ c. search rules)  -- shape_of-s
     (λ c. search record_put)  -- returns
     )

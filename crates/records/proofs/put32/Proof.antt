@@ -7,11 +7,11 @@ use Rattle.records.proofs.put32.Tie as tie
 pub put32_spec : {M : Type 1} → statement M
 put32_spec =
     tie.close (tie.spec
-    (λ c. search rules)  -- cast-put16
+    (λ c. search rules)  -- overflow_cast-v
     (λ c κs. search rules)  -- put16-requires
-    (λ c. search rules)  -- add-put16
-    (λ c. search rules)  -- cast-put16-2
+    (λ c. search rules)  -- overflow_add-at
+    (λ c. search rules)  -- overflow_cast-v-2
     (λ c κs. search rules)  -- put16-requires-2
-    (λ c. search rules)  -- same-length
+    (λ c. search rules)  -- shape_of-s
     (λ c. search u32_written)  -- returns
     )

@@ -8,19 +8,19 @@ pub put_at_spec : {M : Type 1} → statement M
 put_at_spec =
     tie.close (tie.spec
     (λ c κs. search rules)  -- put16-requires
-    (λ c. search rules)  -- add-put16
+    (λ c. search rules)  -- overflow_add-x
     (λ c κs. search rules)  -- put16-requires-2
-    (λ c. search rules)  -- add-put16-2
+    (λ c. search rules)  -- overflow_add-x-2
     (λ c κs. search rules)  -- put16-requires-3
-    (λ c. search rules)  -- add-put16-3
+    (λ c. search rules)  -- overflow_add-x-3
     (λ c κs. search rules)  -- put16-requires-4
-    (λ c. search rules)  -- add-put16-4
+    (λ c. search rules)  -- overflow_add-x-4
     (λ c κs. search rules)  -- put16-requires-5
-    (λ c. search rules)  -- add-put16-5
+    (λ c. search rules)  -- overflow_add-x-5
     (λ c κs. search rules)  -- put16-requires-6
-    (λ c. search rules)  -- add-put32
+    (λ c. search rules)  -- overflow_add-x-6
     (λ c κs. search rules)  -- put32-requires
-    (λ c. search rules)  -- same-length
+    (λ c. search rules)  -- shape_of-s
     (λ c.
     let c₇ = c.before.before in
     let c₆ = c₇.before.before.before.before in
@@ -29,6 +29,6 @@ put_at_spec =
     let c₃ = c₄.before.before.before.before in
     let c₂ = c₃.before.before.before.before in
     let c₁ = c₂.before.before.before.before in
-    record_written _ _ _ c₁.before.before.before.requires
-    c₇.put32.ensures c₆.put166.ensures c₅.put165.ensures c₄.put164.ensures c₃.put163.ensures c₂.put162.ensures c₁.put16.ensures)  -- returns
+    record_written _ _ _ c₁.requires
+    c₇.put32.ensures c₆.put16-6.ensures c₅.put16-5.ensures c₄.put16-4.ensures c₃.put16-3.ensures c₂.put16-2.ensures c₁.put16.ensures)  -- returns
     )

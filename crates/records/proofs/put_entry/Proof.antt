@@ -9,8 +9,8 @@ use Rattle.records.proofs.put_entry.Tie as tie
 pub put_entry_spec : {M : Type 1} → statement M
 put_entry_spec =
     tie.close (tie.spec
-    (λ c. omega (arith, entries_room _ _ c.before.before.requires))  -- mul-put-entry-at
-    (λ c κs. omega (arith, entries_room _ _ c.before.before.requires))  -- put-entry-at-requires
-    (λ c. search rules)  -- same-length
+    (λ c. omega (arith, entries_room _ _ c.requires))  -- overflow_mul-i
+    (λ c κs. omega (arith, entries_room _ _ c.requires))  -- put_entry_at-requires
+    (λ c. search rules)  -- shape_of-s
     (λ c. search entry_put)  -- returns
     )

@@ -8,14 +8,14 @@ pub put_entry_at_spec : {M : Type 1} → statement M
 put_entry_at_spec =
     tie.close (tie.spec
     (λ c κs. search rules)  -- put16-requires
-    (λ c. search rules)  -- add-put16
+    (λ c. search rules)  -- overflow_add-x
     (λ c κs. search rules)  -- put16-requires-2
-    (λ c. search rules)  -- add-put16-2
+    (λ c. search rules)  -- overflow_add-x-2
     (λ c κs. search rules)  -- put16-requires-3
-    (λ c. search rules)  -- same-length
+    (λ c. search rules)  -- shape_of-s
     (λ c.
     let c₃ = c.before.before in
     let c₂ = c₃.before.before.before.before in
     let c₁ = c₂.before.before.before.before in
-    entry_written _ _ _ c₁.before.before.before.requires c₃.put163.ensures c₂.put162.ensures c₁.put16.ensures)  -- returns
+    entry_written _ _ _ c₁.requires c₃.put16-3.ensures c₂.put16-2.ensures c₁.put16.ensures)  -- returns
     )

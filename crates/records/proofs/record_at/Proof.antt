@@ -8,17 +8,17 @@ pub record_at_spec : {M : Type 1} → statement M
 record_at_spec =
     tie.close (tie.spec
     (λ c κs. search rules)  -- get16-requires
-    (λ c. search rules)  -- add-get16
+    (λ c. search rules)  -- overflow_add-x
     (λ c κs. search rules)  -- get16-requires-2
-    (λ c. search rules)  -- add-get16-2
+    (λ c. search rules)  -- overflow_add-x-2
     (λ c κs. search rules)  -- get16-requires-3
-    (λ c. search rules)  -- add-get16-3
+    (λ c. search rules)  -- overflow_add-x-3
     (λ c κs. search rules)  -- get16-requires-4
-    (λ c. search rules)  -- add-get16-4
+    (λ c. search rules)  -- overflow_add-x-4
     (λ c κs. search rules)  -- get16-requires-5
-    (λ c. search rules)  -- add-get16-5
+    (λ c. search rules)  -- overflow_add-x-5
     (λ c κs. search rules)  -- get16-requires-6
-    (λ c. search rules)  -- add-get32
+    (λ c. search rules)  -- overflow_add-x-6
     (λ c κs. search rules)  -- get32-requires
     (λ c. search record_read)  -- returns
     )
