@@ -15,13 +15,13 @@ decreases-loop table n e m₀ m = n - m
 pub alone_spec : {M : Type 1} → statement M
 alone_spec =
     tie.close (tie.spec invariant-loop decreases-loop
-    (λ c κs. search (entering, rules))  -- entry-no-requires
+    (λ c κs. search (entering, rules))  -- entry_no-e-requires
     (λ c. search (entering, rules))  -- loop-holds
-    (λ c κs. search (entering, rules))  -- entry-no-requires-2
-    (λ c κs. search (entering, rules))  -- same-entry-requires
-    (λ c. search (entering, rules))  -- returns
-    (λ c. search (entering, rules))  -- add-m
+    (λ c κs. search (entering, rules))  -- entry_no-requires
+    (λ c κs. search (entering, rules))  -- same_entry-requires
+    (λ c. search (entering, rules))  -- returns-then-same_entry
+    (λ c. search (entering, rules))  -- overflow_add-m
     (λ c. search (entering, rules))  -- loop-less
     (λ c. search (entering, rules))  -- loop-again
-    (λ c. search (entering, rules))  -- returns-2
+    (λ c. search (entering, rules))  -- returns
     )

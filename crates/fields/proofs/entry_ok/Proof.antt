@@ -8,8 +8,8 @@ pub entry_ok_spec : {M : Type 1} → statement M
 entry_ok_spec =
     tie.close (tie.spec
     (λ c κs. search (entering, rules))  -- alone-requires
-    (λ c κs. search (entering, rules))  -- entry-no-requires
-    (λ c κs. search (entering, rules))  -- kind-ok-requires
+    (λ c κs. search (entering, rules))  -- entry_no-requires
+    (λ c κs. search (entering, rules))  -- kind_ok-requires
     (λ c κs. search (entering, rules))  -- both-requires
     (λ c. search (entering, rules))  -- returns
     )

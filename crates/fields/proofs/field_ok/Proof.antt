@@ -7,8 +7,8 @@ use Rattle.fields.proofs.field_ok.Tie as tie
 pub field_ok_spec : {M : Type 1} → statement M
 field_ok_spec =
     tie.close (tie.spec
-    (λ c κs. search (fielding, rules))  -- in-range-requires
-    (λ c. search (fielding, rules))  -- returns
-    (λ c. search (fielding, rules))  -- returns-2
-    (λ c. search (fielding, rules))  -- returns-3
+    (λ c κs. search (fielding, rules))  -- in_range-requires
+    (λ c. search (fielding, rules))  -- returns-in-0
+    (λ c. search (fielding, rules))  -- returns-in-2
+    (λ c. search (fielding, rules))  -- returns-in_default
     )

@@ -22,13 +22,13 @@ pub fields_refusal_spec : {M : Type 1} → statement M
 fields_refusal_spec =
     tie.close (tie.spec invariant-loop decreases-loop
     (λ c. search (scanning, fielding, placing, rules))  -- loop-holds
-    (λ c. search (scanning, fielding, placing, rules))  -- add-n
-    (λ c κs. search (scanning, fielding, placing, rules))  -- record-no-requires
-    (λ c κs. search (scanning, fielding, placing, rules))  -- fields-ok-requires
+    (λ c. search (scanning, fielding, placing, rules))  -- overflow_add-n
+    (λ c κs. search (scanning, fielding, placing, rules))  -- record_no-requires
+    (λ c κs. search (scanning, fielding, placing, rules))  -- fields_ok-requires
     (λ c κs. search (scanning, fielding, placing, rules))  -- refuse-requires
-    (λ c. search (scanning, fielding, placing, rules))  -- returns
+    (λ c. search (scanning, fielding, placing, rules))  -- returns-then-not-fields_ok
     (λ c. search (scanning, fielding, placing, rules))  -- loop-less
     (λ c. search (scanning, fielding, placing, rules))  -- loop-again
-    (λ c κs. search (scanning, fielding, placing, rules))  -- no-refusal-requires
-    (λ c. search (scanning, fielding, placing, rules))  -- returns-2
+    (λ c κs. search (scanning, fielding, placing, rules))  -- no_refusal-requires
+    (λ c. search (scanning, fielding, placing, rules))  -- returns
     )

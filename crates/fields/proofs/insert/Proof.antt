@@ -8,17 +8,17 @@ use Rattle.fields.proofs.insert.Tie as tie
 pub insert_spec : {M : Type 1} → statement M
 insert_spec =
     tie.close (tie.spec
-    (λ c. search rules)  -- mul-word
-    (λ c. search rules)  -- slice-read-word
-    (λ c. search rules)  -- cast-bit
-    (λ c. search rules)  -- cast-if1
-    (λ c. search rules)  -- shr-if1
+    (λ c. search rules)  -- offset_bounds-set-k
+    (λ c. search rules)  -- bounds-set-k
+    (λ c. search rules)  -- overflow_cast-bit
+    (λ c. search rules)  -- overflow_cast-bit-2
+    (λ c. search rules)  -- overflow_shr-word
+    (λ c. search (inserting, rules))  -- returns-then-word-bit-eq1
+    (λ c. search rules)  -- overflow_cast-set
+    (λ c. search rules)  -- overflow_shl-set
+    (λ c. let a = c.args in sum_fits a.set.now a.k c.if-word-bit-eq1.false (c.slice_known-1.given (a.k / 64)))  -- overflow_add-set
+    (λ c. search rules)  -- offset_bounds-set-k-2
+    (λ c. search rules)  -- bounds-set-k-2
+    (λ c. search rules)  -- shape_of-set
     (λ c. search (inserting, rules))  -- returns
-    (λ c. search rules)  -- cast-set
-    (λ c. search rules)  -- shl-set
-    (λ c. let a = c.before.before.args in sum_fits a.set.now a.k c.if1.false (c.before.slice-known.given (a.k / 64)))  -- add-set
-    (λ c. search rules)  -- mul-set
-    (λ c. search rules)  -- slice-write-set
-    (λ c. search rules)  -- same-length
-    (λ c. search (inserting, rules))  -- returns-2
     )

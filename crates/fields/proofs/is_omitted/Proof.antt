@@ -7,6 +7,6 @@ use Rattle.fields.proofs.is_omitted.Tie as tie
 pub is_omitted_spec : {M : Type 1} → statement M
 is_omitted_spec =
     tie.close (tie.spec
-    (λ c κs. search rules)  -- record-no-requires
+    (λ c κs. search rules)  -- record_no-r-requires
     (λ c. search (omitted_told, rules))  -- returns
     )

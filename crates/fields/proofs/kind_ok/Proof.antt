@@ -8,13 +8,13 @@ pub kind_ok_spec : {M : Type 1} → statement M
 kind_ok_spec =
     tie.close (tie.spec
     (λ c κs. search (entering, rules))  -- both-requires
-    (λ c κs. search (entering, rules))  -- is-earlier-requires
-    (λ c κs. search (entering, rules))  -- is-earlier-requires-2
-    (λ c κs. search (entering, rules))  -- both-requires-2
-    (λ c κs. search (entering, rules))  -- is-earlier-requires-3
-    (λ c κs. search (entering, rules))  -- both-requires-3
-    (λ c. search (entering, rules))  -- returns
-    (λ c. search (entering, rules))  -- returns-2
-    (λ c. search (entering, rules))  -- returns-3
-    (λ c. search (entering, rules))  -- returns-4
+    (λ c κs. search (entering, rules))  -- is_earlier-requires
+    (λ c κs. search (entering, rules))  -- is_earlier-requires-in-2
+    (λ c κs. search (entering, rules))  -- both-requires-in-2
+    (λ c κs. search (entering, rules))  -- is_earlier-requires-in-3
+    (λ c κs. search (entering, rules))  -- both-requires-in-3
+    (λ c. search (entering, rules))  -- returns-in-1
+    (λ c. search (entering, rules))  -- returns-in-2
+    (λ c. search (entering, rules))  -- returns-in-3
+    (λ c. search (entering, rules))  -- returns-in_default
     )

@@ -20,12 +20,12 @@ pub omitted_refusal_spec : {M : Type 1} → statement M
 omitted_refusal_spec =
     tie.close (tie.spec invariant-loop decreases-loop
     (λ c. search (scanning, placing, rules))  -- loop-holds
-    (λ c. search (scanning, placing, rules))  -- add-n
-    (λ c κs. search (scanning, placing, rules))  -- is-omitted-requires
+    (λ c. search (scanning, placing, rules))  -- overflow_add-n
+    (λ c κs. search (scanning, placing, rules))  -- is_omitted-requires
     (λ c κs. search (scanning, placing, rules))  -- refuse-requires
-    (λ c. search (scanning, placing, rules))  -- returns
+    (λ c. search (scanning, placing, rules))  -- returns-then-not-is_omitted
     (λ c. search (scanning, placing, rules))  -- loop-less
     (λ c. search (scanning, placing, rules))  -- loop-again
-    (λ c κs. search (scanning, placing, rules))  -- no-refusal-requires
-    (λ c. search (scanning, placing, rules))  -- returns-2
+    (λ c κs. search (scanning, placing, rules))  -- no_refusal-requires
+    (λ c. search (scanning, placing, rules))  -- returns
     )

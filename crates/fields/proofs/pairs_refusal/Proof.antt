@@ -19,12 +19,12 @@ pub pairs_refusal_spec : {M : Type 1} → statement M
 pairs_refusal_spec =
     tie.close (tie.spec invariant-loop decreases-loop
     (λ c. search (scanning, placing, rules))  -- loop-holds
-    (λ c. search (scanning, placing, rules))  -- add-n
-    (λ c κs. search (scanning, placing, rules))  -- entry-ok-requires
+    (λ c. search (scanning, placing, rules))  -- overflow_add-n
+    (λ c κs. search (scanning, placing, rules))  -- entry_ok-requires
     (λ c κs. search (scanning, placing, rules))  -- refuse-requires
-    (λ c. search (scanning, placing, rules))  -- returns
+    (λ c. search (scanning, placing, rules))  -- returns-then-not-entry_ok
     (λ c. search (scanning, placing, rules))  -- loop-less
     (λ c. search (scanning, placing, rules))  -- loop-again
-    (λ c κs. search (scanning, placing, rules))  -- no-refusal-requires
-    (λ c. search (scanning, placing, rules))  -- returns-2
+    (λ c κs. search (scanning, placing, rules))  -- no_refusal-requires
+    (λ c. search (scanning, placing, rules))  -- returns
     )

@@ -24,14 +24,14 @@ pub set_refusal_spec : {M : Type 1} → statement M
 set_refusal_spec =
     tie.close (tie.spec invariant-loop decreases-loop
     (λ c. search (scanning, noting, rules))  -- loop-holds
-    (λ c. search (scanning, noting, rules))  -- add-n
+    (λ c. search (scanning, noting, rules))  -- overflow_add-n
     (λ c κs. search (scanning, noting, rules))  -- note-requires
     (λ c κs. search (scanning, noting, rules))  -- refuse-requires
-    (λ c. search (scanning, noting, rules))  -- same-length
-    (λ c. search (scanning, noting, rules))  -- returns
+    (λ c. search (scanning, noting, rules))  -- shape_of-seen-then-not-note
+    (λ c. search (scanning, noting, rules))  -- returns-then-not-note
     (λ c. search (scanning, noting, rules))  -- loop-less
     (λ c. search (scanning, noting, rules))  -- loop-again
-    (λ c κs. search (scanning, noting, rules))  -- no-refusal-requires
-    (λ c. search (scanning, noting, rules))  -- same-length-2
-    (λ c. search (scanning, noting, rules))  -- returns-2
+    (λ c κs. search (scanning, noting, rules))  -- no_refusal-requires
+    (λ c. search (scanning, noting, rules))  -- shape_of-seen
+    (λ c. search (scanning, noting, rules))  -- returns
     )

@@ -7,11 +7,11 @@ use Rattle.judging.proofs.application_ok.Tie as tie
 pub application_ok_spec : {M : Type 1} → statement M
 application_ok_spec =
     tie.close (tie.spec
-    (λ c κs. search (shapes, rules))  -- entry-if-any-requires
-    (λ c κs. search (shapes, rules))  -- entry-if-any-requires-2
-    (λ c κs. search (shapes, rules))  -- is-code-requires
-    (λ c κs. search (shapes, rules))  -- is-code-requires-2
-    (λ c κs. search (shapes, rules))  -- is-fn-requires
+    (λ c κs. search (shapes, rules))  -- entry_if_any-arg-requires
+    (λ c κs. search (shapes, rules))  -- entry_if_any-fun-requires
+    (λ c κs. search (shapes, rules))  -- is_code-requires
+    (λ c κs. search (shapes, rules))  -- is_code-requires-2
+    (λ c κs. search (shapes, rules))  -- is_fn-requires
     (λ c κs. search (shapes, rules))  -- both-requires
     (λ c κs. search (shapes, rules))  -- both-requires-2
     (λ c. search (shapes, rules))  -- returns

@@ -9,12 +9,12 @@ use Rattle.judging.proofs.binder_at.Tie as tie
 pub binder_at_spec : {M : Type 1} → statement M
 binder_at_spec =
     tie.close (tie.spec
-    (λ c. search (reading, rules))  -- sub-x
-    (λ c. search (reading, rules))  -- sub-x-2
-    (λ c. search (reading, rules))  -- mul-x
-    (λ c. search (reading, rules))  -- shared-slice-read-x
-    (λ c. omega (arith, c.shared-slice-known.given (c.before.before.args.depth - 1 - c.before.before.args.i)))  -- cast-t12
-    (λ c. search (reading, rules))  -- cast-t14
+    (λ c. search (reading, rules))  -- overflow_sub-x
+    (λ c. search (reading, rules))  -- overflow_sub-x-then-at-depth
+    (λ c. search (reading, rules))  -- offset_bounds-binders-depth
+    (λ c. search (reading, rules))  -- bounds-binders-depth
+    (λ c. omega (arith, c.shared_slice_known-1.given (c.args.depth - 1 - c.args.i)))  -- overflow_cast-result
+    (λ c. search (reading, rules))  -- overflow_cast-result-then-at-depth
+    (λ c. search (reading, rules))  -- returns-then-at-depth
     (λ c. search (reading, rules))  -- returns
-    (λ c. search (reading, rules))  -- returns-2
     )

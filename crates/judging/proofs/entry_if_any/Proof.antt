@@ -9,8 +9,8 @@ use Rattle.judging.proofs.entry_if_any.Tie as tie
 pub entry_if_any_spec : {M : Type 1} → statement M
 entry_if_any_spec =
     tie.close (tie.spec
-    (λ c. search rules)  -- mul-if2
-    (λ c. ⊎_elim (λ w. zero_no_entry _ _ w.taken) (λ w. no_entry_beyond _ _ (ltb-true _ _ w.1.taken)) c.if1.branch)  -- returns
-    (λ c κs. search (reading, rules))  -- entry-no-requires
-    (λ c. search (reading, rules))  -- returns-2
+    (λ c. search rules)  -- overflow_mul-n
+    (λ c. ⊎_elim (λ w. zero_no_entry _ _ w.taken) (λ w. no_entry_beyond _ _ (ltb-true _ _ w.1.taken)) c.then-n-eq0.branch)  -- returns-then-n-eq0
+    (λ c κs. search (reading, rules))  -- entry_no-requires
+    (λ c. search (reading, rules))  -- returns
     )

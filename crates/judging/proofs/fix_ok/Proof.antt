@@ -7,9 +7,9 @@ use Rattle.judging.proofs.fix_ok.Tie as tie
 pub fix_ok_spec : {M : Type 1} → statement M
 fix_ok_spec =
     tie.close (tie.spec
-    (λ c κs. search (shapes, rules))  -- entry-if-any-requires
-    (λ c κs. search (shapes, rules))  -- is-code-requires
-    (λ c κs. search (shapes, rules))  -- is-fn-requires
+    (λ c κs. search (shapes, rules))  -- entry_if_any-e-requires
+    (λ c κs. search (shapes, rules))  -- is_code-requires
+    (λ c κs. search (shapes, rules))  -- is_fn-requires
     (λ c κs. search (shapes, rules))  -- both-requires
     (λ c. search (shapes, rules))  -- returns
     )

@@ -7,14 +7,14 @@ use Rattle.judging.proofs.function_ok.Tie as tie
 pub function_ok_spec : {M : Type 1} → statement M
 function_ok_spec =
     tie.close (tie.spec
-    (λ c κs. search (shapes, rules))  -- entry-if-any-requires
-    (λ c κs. search (shapes, rules))  -- entry-if-any-requires-2
-    (λ c κs. search (shapes, rules))  -- is-fn-requires
-    (λ c κs. search (shapes, rules))  -- is-fn-requires-2
+    (λ c κs. search (shapes, rules))  -- entry_if_any-e-requires
+    (λ c κs. search (shapes, rules))  -- entry_if_any-fun-requires
+    (λ c κs. search (shapes, rules))  -- is_fn-requires
+    (λ c κs. search (shapes, rules))  -- is_fn-requires-2
+    (λ c κs. search (shapes, rules))  -- both-parts-requires
+    (λ c κs. search (shapes, rules))  -- is_code-requires
+    (λ c κs. search (shapes, rules))  -- is_code-requires-2
     (λ c κs. search (shapes, rules))  -- both-requires
-    (λ c κs. search (shapes, rules))  -- is-code-requires
-    (λ c κs. search (shapes, rules))  -- is-code-requires-2
     (λ c κs. search (shapes, rules))  -- both-requires-2
-    (λ c κs. search (shapes, rules))  -- both-requires-3
     (λ c. search (shapes, rules))  -- returns
     )

@@ -8,8 +8,8 @@ pub level_ok_spec : {M : Type 1} → statement M
 level_ok_spec =
     tie.close (tie.spec
     (λ c κs. search (standings, rules))  -- both-requires
-    (λ c κs. search (standings, rules))  -- may-stand-requires
-    (λ c. search (standings, rules))  -- returns
-    (λ c. search (standings, rules))  -- returns-2
-    (λ c. search (standings, rules))  -- returns-3
+    (λ c κs. search (standings, rules))  -- may_stand-requires
+    (λ c. search (standings, rules))  -- returns-in-2
+    (λ c. search (standings, rules))  -- returns-in-10
+    (λ c. search (standings, rules))  -- returns-in_default
     )

@@ -7,8 +7,8 @@ use Rattle.judging.proofs.match_children_ok.Tie as tie
 pub match_children_ok_spec : {M : Type 1} → statement M
 match_children_ok_spec =
     tie.close (tie.spec
-    (λ c κs. search (shapes, rules))  -- entry-if-any-requires
-    (λ c κs. search (shapes, rules))  -- is-code-requires
+    (λ c κs. search (shapes, rules))  -- entry_if_any-e-requires
+    (λ c κs. search (shapes, rules))  -- is_code-requires
     (λ c κs. search (shapes, rules))  -- both-requires
     (λ c κs. search (shapes, rules))  -- both-requires-2
     (λ c. search (shapes, rules))  -- returns

@@ -12,19 +12,19 @@ pub pattern_ok_spec : {M : Type 1} → statement M
 unfolding kind_of numbered
 pattern_ok_spec =
     tie.close (tie.spec
-    (λ c κs. search rules)  -- is-nat-requires
-    (λ c κs. search rules)  -- application-ok-requires
-    (λ c κs. search rules)  -- is-nat-requires-2
-    (λ c κs. search rules)  -- is-nat-requires-3
+    (λ c κs. search rules)  -- is_nat-requires
+    (λ c κs. search rules)  -- application_ok-requires
+    (λ c κs. search rules)  -- is_nat-requires-in-12
+    (λ c κs. search rules)  -- is_nat-requires-in-12-2
     (λ c κs. search rules)  -- both-requires
-    (λ c κs. search rules)  -- function-ok-requires
-    (λ c κs. search rules)  -- fix-ok-requires
-    (λ c. kind_pattern _ _ _ _ _ _ _ (ap kind_of c.before.match.keys1) (λ Γ g. c.is-nat.ensures))  -- returns
-    (λ c. kind_pattern _ _ _ _ _ _ _ (ap kind_of c.match.keys2) (λ Γ g. equal_test _ _ _ g))  -- returns-2
-    (λ c. shape_pattern _ _ _ _ _ _ match_application (ap kind_of c.before.match.keys3) c.application-ok.ensures)  -- returns-3
-    (λ c. kind_pattern _ _ _ _ _ _ _ (ap kind_of c.before.before.before.match.keys4) (λ Γ g. first_test _ _ _ _ _ c.before.before.is-nat2.ensures c.before.is-nat3.ensures c.both.ensures))  -- returns-4
-    (λ c. shape_pattern _ _ _ _ _ _ match_function (ap kind_of c.before.match.keys5) c.function-ok.ensures)  -- returns-5
+    (λ c κs. search rules)  -- function_ok-requires
+    (λ c κs. search rules)  -- fix_ok-requires
+    (λ c. kind_pattern _ _ _ _ _ _ _ (ap kind_of c.before.in_default.keys1) (λ Γ g. c.is_nat.ensures))  -- returns-in-9
+    (λ c. kind_pattern _ _ _ _ _ _ _ (ap kind_of c.in_default.keys2) (λ Γ g. equal_test _ _ _ g))  -- returns-in-10
+    (λ c. shape_pattern _ _ _ _ _ _ match_application (ap kind_of c.before.in_default.keys3) c.application_ok.ensures)  -- returns-in-11
+    (λ c. kind_pattern _ _ _ _ _ _ _ (ap kind_of c.before.before.before.in_default.keys4) (λ Γ g. first_test _ _ _ _ _ c.is_nat-in-12.ensures c.is_nat-in-12-2.ensures c.both.ensures))  -- returns-in-12
+    (λ c. shape_pattern _ _ _ _ _ _ match_function (ap kind_of c.before.in_default.keys5) c.function_ok.ensures)  -- returns-in-13
     (λ c.
-    let e : c.before.before.before.args.kind ≡ 14 = omega arith in
-    shape_pattern _ _ _ _ _ _ match_fix (ap kind_of e) c.fix-ok.ensures)  -- returns-6
+    let e : c.args.kind ≡ 14 = omega arith in
+    shape_pattern _ _ _ _ _ _ match_fix (ap kind_of e) c.fix_ok.ensures)  -- returns-in_default
     )

@@ -14,26 +14,26 @@ pub type_ok_spec : {M : Type 1} → statement M
 unfolding kind_of numbered
 type_ok_spec =
     tie.close (tie.spec
-    (λ c κs. search rules)  -- is-fn-requires
-    (λ c κs. search rules)  -- is-fn-requires-2
-    (λ c κs. search rules)  -- is-fn-requires-3
-    (λ c κs. search rules)  -- is-nat-requires
-    (λ c κs. search rules)  -- is-code-requires
+    (λ c κs. search rules)  -- is_fn-requires
+    (λ c κs. search rules)  -- is_fn-requires-in-4
+    (λ c κs. search rules)  -- is_fn-requires-in-5
+    (λ c κs. search rules)  -- is_nat-requires
+    (λ c κs. search rules)  -- is_code-requires
     (λ c κs. search rules)  -- both-requires
-    (λ c κs. search rules)  -- is-code-requires-2
-    (λ c κs. search rules)  -- is-code-requires-3
-    (λ c κs. search rules)  -- entry-if-any-requires
-    (λ c κs. search rules)  -- match-children-ok-requires
-    (λ c κs. search (a_match, rules))  -- pattern-ok-requires
-    (λ c κs. search rules)  -- both-requires-2
-    (λ c κs. search rules)  -- is-nat-requires-2
-    (λ c. kind_type _ _ _ _ _ _ _ _ _ (ap kind_of c.before.match.keys1) (λ Γ g. equal_test _ _ _ g))  -- returns
-    (λ c. kind_type _ _ _ _ _ _ _ _ _ (ap kind_of c.before.match.keys2) (λ Γ g. c.is-fn.ensures))  -- returns-2
-    (λ c. kind_type _ _ _ _ _ _ _ _ _ (ap kind_of c.before.match.keys3) (λ Γ g. c.is-fn2.ensures))  -- returns-3
-    (λ c. kind_type _ _ _ _ _ _ _ _ _ (ap kind_of c.before.match.keys4) (λ Γ g. c.is-fn3.ensures))  -- returns-4
-    (λ c. kind_type _ _ _ _ _ _ _ _ _ (ap kind_of c.before.before.before.match.keys5) (λ Γ g. first_test _ _ _ _ _ c.before.before.is-nat.ensures c.before.is_code.ensures c.both.ensures))  -- returns-5
-    (λ c. kind_type _ _ _ _ _ _ _ _ _ (ap kind_of c.before.match.keys6) (λ Γ g. c.is-code2.ensures))  -- returns-6
-    (λ c. kind_type _ _ _ _ _ _ _ _ _ (ap kind_of c.before.match.keys7) (λ Γ g. c.is-code3.ensures))  -- returns-7
-    (λ c. match_type _ _ _ _ _ _ _ _ _ _ _ (search (a_match, rules)) c.before.before.before.entry-if-any.ensures c.before.before.match-children-ok.ensures c.before.pattern-ok.ensures c.both2.ensures)  -- returns-8
-    (λ c. kind_type _ _ _ _ _ _ _ _ _ (first_kind _ (λ a b. ⊎_elim (λ w. not-le_of_lt w.taken a) (λ w. not-le_of_lt b w.1.left) c.before.if1.branch)) (λ Γ g. c.is-nat2.ensures))  -- returns-9
+    (λ c κs. search rules)  -- is_code-requires-in-7
+    (λ c κs. search rules)  -- is_code-requires-in-8
+    (λ c κs. search rules)  -- entry_if_any-e-requires
+    (λ c κs. search rules)  -- match_children_ok-requires
+    (λ c κs. search (a_match, rules))  -- pattern_ok-requires
+    (λ c κs. search rules)  -- both-requires-in-9-to-14
+    (λ c κs. search rules)  -- is_nat-requires-in_default
+    (λ c. kind_type _ _ _ _ _ _ _ _ _ (ap kind_of c.before.in_default-1.keys1) (λ Γ g. equal_test _ _ _ g))  -- returns-in-2
+    (λ c. kind_type _ _ _ _ _ _ _ _ _ (ap kind_of c.before.in_default-1.keys2) (λ Γ g. c.is_fn.ensures))  -- returns-in-3
+    (λ c. kind_type _ _ _ _ _ _ _ _ _ (ap kind_of c.before.in_default-1.keys3) (λ Γ g. c.is_fn-in-4.ensures))  -- returns-in-4
+    (λ c. kind_type _ _ _ _ _ _ _ _ _ (ap kind_of c.before.in_default-1.keys4) (λ Γ g. c.is_fn-in-5.ensures))  -- returns-in-5
+    (λ c. kind_type _ _ _ _ _ _ _ _ _ (ap kind_of c.before.before.before.in_default-1.keys5) (λ Γ g. first_test _ _ _ _ _ c.is_nat.ensures c.is_code.ensures c.both.ensures))  -- returns-in-6
+    (λ c. kind_type _ _ _ _ _ _ _ _ _ (ap kind_of c.before.in_default-1.keys6) (λ Γ g. c.is_code-in-7.ensures))  -- returns-in-7
+    (λ c. kind_type _ _ _ _ _ _ _ _ _ (ap kind_of c.before.in_default-1.keys7) (λ Γ g. c.is_code-in-8.ensures))  -- returns-in-8
+    (λ c. match_type _ _ _ _ _ _ _ _ _ _ _ (search (a_match, rules)) c.entry_if_any-e.ensures c.match_children_ok.ensures c.pattern_ok.ensures c.both-in-9-to-14.ensures)  -- returns-in-9-to-14
+    (λ c. kind_type _ _ _ _ _ _ _ _ _ (first_kind _ (λ a b. ⊎_elim (λ w. not-le_of_lt w.taken a) (λ w. not-le_of_lt b w.1.left) c.before.in_default.branch)) (λ Γ g. c.is_nat-in_default.ensures))  -- returns-in_default
     )

@@ -8,19 +8,19 @@ use Rattle.links.proofs.chains.children_ok.Tie as tie
 pub children_ok_spec : {M : Type 1} → statement M
 children_ok_spec =
     tie.close (tie.spec
-    (λ c κs. search (chaining, placing, rules))  -- record-no-requires
-    (λ c κs. search (chaining, placing, rules))  -- children-requires
-    (λ c. search (chaining, placing, rules))  -- returns
-    (λ c κs. search (chaining, placing, rules))  -- next-of-requires
+    (λ c κs. search (chaining, placing, rules))  -- record_no-r-requires
+    (λ c κs. search (chaining, placing, rules))  -- children-count-requires
+    (λ c. search (chaining, placing, rules))  -- returns-then-count-eq0
+    (λ c κs. search (chaining, placing, rules))  -- next_of-s-requires
     (λ c κs. search (chaining, placing, rules))  -- both-requires
-    (λ c. search (chaining, placing, rules))  -- returns-2
-    (λ c κs. search (chaining, placing, rules))  -- next-of-requires-2
+    (λ c. search (chaining, placing, rules))  -- returns-then-count-eq1
+    (λ c κs. search (chaining, placing, rules))  -- next_of-e-requires
+    (λ c κs. search (chaining, placing, rules))  -- both-requires-then-count-eq2
+    (λ c κs. search (chaining, placing, rules))  -- both-requires-then-count-eq2-2
+    (λ c. search (chaining, placing, rules))  -- returns-then-count-eq2
+    (λ c κs. last_in_chain _ _ _ _ _ c.next_of-e.ensures c.next_of-s.ensures c.record_no-r.ensures c.requires)  -- next_of-x-requires
     (λ c κs. search (chaining, placing, rules))  -- both-requires-2
     (λ c κs. search (chaining, placing, rules))  -- both-requires-3
-    (λ c. search (chaining, placing, rules))  -- returns-3
-    (λ c κs. last_in_chain _ _ _ _ _ c.before.next-of2.ensures c.before.before.before.next-of.ensures c.before.before.before.before.before.before.record-no.ensures c.before.before.before.before.before.before.before.before.requires)  -- next-of-requires-3
     (λ c κs. search (chaining, placing, rules))  -- both-requires-4
-    (λ c κs. search (chaining, placing, rules))  -- both-requires-5
-    (λ c κs. search (chaining, placing, rules))  -- both-requires-6
-    (λ c. search (chaining, placing, rules))  -- returns-4
+    (λ c. search (chaining, placing, rules))  -- returns
     )

@@ -19,12 +19,12 @@ pub children_refusal_spec : {M : Type 1} → statement M
 children_refusal_spec =
     tie.close (tie.spec invariant-loop decreases-loop
     (λ c. search (scanning, chaining, rules))  -- loop-holds
-    (λ c. search (scanning, chaining, rules))  -- add-n
-    (λ c κs. search (scanning, chaining, rules))  -- children-ok-requires
+    (λ c. search (scanning, chaining, rules))  -- overflow_add-n
+    (λ c κs. search (scanning, chaining, rules))  -- children_ok-requires
     (λ c κs. search (scanning, chaining, rules))  -- refuse-requires
-    (λ c. search (scanning, chaining, rules))  -- returns
+    (λ c. search (scanning, chaining, rules))  -- returns-then-not-children_ok
     (λ c. search (scanning, chaining, rules))  -- loop-less
     (λ c. search (scanning, chaining, rules))  -- loop-again
-    (λ c κs. search (scanning, chaining, rules))  -- no-refusal-requires
-    (λ c. search (scanning, chaining, rules))  -- returns-2
+    (λ c κs. search (scanning, chaining, rules))  -- no_refusal-requires
+    (λ c. search (scanning, chaining, rules))  -- returns
     )

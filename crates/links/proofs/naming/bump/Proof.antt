@@ -7,14 +7,14 @@ use Rattle.links.proofs.naming.bump.Tie as tie
 pub bump_spec : {M : Type 1} → statement M
 bump_spec =
     tie.close (tie.spec
-    (λ c. search (bumping, rules))  -- sub-i
-    (λ c. search (bumping, rules))  -- cast-i
-    (λ c. search (bumping, rules))  -- mul-counts
-    (λ c. search (bumping, rules))  -- slice-read-counts
-    (λ c. search (bumping, rules))  -- add-counts
-    (λ c. search (bumping, rules))  -- mul-counts-2
-    (λ c. search (bumping, rules))  -- slice-write-counts
-    (λ c. search (bumping, rules))  -- same-length
-    (λ c. search (bumping, rules))  -- returns
-    (λ c. search (bumping, rules))  -- returns-2
+    (λ c. search (bumping, rules))  -- overflow_sub-i
+    (λ c. search (bumping, rules))  -- overflow_cast-i
+    (λ c. search (bumping, rules))  -- offset_bounds-counts-i
+    (λ c. search (bumping, rules))  -- bounds-counts-i
+    (λ c. search (bumping, rules))  -- overflow_add-counts
+    (λ c. search (bumping, rules))  -- offset_bounds-counts-i-then-m-ne0
+    (λ c. search (bumping, rules))  -- bounds-counts-i-then-m-ne0
+    (λ c. search (bumping, rules))  -- shape_of-counts
+    (λ c. search (bumping, rules))  -- returns-then-m-ne0
+    (λ c. search (bumping, rules))  -- returns-else-m-ne0
     )

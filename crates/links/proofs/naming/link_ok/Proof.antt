@@ -7,7 +7,7 @@ use Rattle.links.proofs.naming.link_ok.Tie as tie
 pub link_ok_spec : {M : Type 1} → statement M
 link_ok_spec =
     tie.close (tie.spec
-    (λ c. search (judging, rules))  -- returns
+    (λ c. search (judging, rules))  -- returns-then-link-eq0
     (λ c κs. search (judging, rules))  -- both-requires
-    (λ c. search (judging, rules))  -- returns-2
+    (λ c. search (judging, rules))  -- returns
     )

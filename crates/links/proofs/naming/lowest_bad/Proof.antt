@@ -23,17 +23,17 @@ pub lowest_bad_spec : {M : Type 1} → statement M
 lowest_bad_spec =
     tie.close (tie.spec invariant-loop decreases-loop
     (λ c. search (counting, scanning, rules))  -- loop-holds
-    (λ c. search (counting, scanning, rules))  -- add-n
-    (λ c κs. search (counting, scanning, rules))  -- links-ok-requires
+    (λ c. search (counting, scanning, rules))  -- overflow_add-n
+    (λ c κs. search (counting, scanning, rules))  -- links_ok-requires
     (λ c κs. search (counting, scanning, rules))  -- refuse-requires
-    (λ c. search (counting, scanning, rules))  -- same-length
-    (λ c. search (counting, scanning, rules))  -- returns
-    (λ c κs. search (counting, scanning, rules))  -- record-no-requires
+    (λ c. search (counting, scanning, rules))  -- shape_of-counts-then-not-links_ok
+    (λ c. search (counting, scanning, rules))  -- returns-then-not-links_ok
+    (λ c κs. search (counting, scanning, rules))  -- record_no-r-requires
     (λ c κs. search (counting, scanning, rules))  -- bump-requires
-    (λ c κs. search (counting, scanning, rules))  -- bump-requires-2
+    (λ c κs. search (counting, scanning, rules))  -- bump-requires-in-loop-n
     (λ c. search (counting, scanning, rules))  -- loop-less
     (λ c. search (counting, scanning, rules))  -- loop-again
-    (λ c κs. search (counting, scanning, rules))  -- no-refusal-requires
-    (λ c. search (counting, scanning, rules))  -- same-length-2
-    (λ c. search (counting, scanning, rules))  -- returns-2
+    (λ c κs. search (counting, scanning, rules))  -- no_refusal-requires
+    (λ c. search (counting, scanning, rules))  -- shape_of-counts
+    (λ c. search (counting, scanning, rules))  -- returns
     )
