@@ -6,22 +6,22 @@ use Rattle.fields.proofs.Entering.{Apart, entering}
 use Rattle.fields.proofs.alone.Statement.{statement}
 use Rattle.fields.proofs.alone.Tie as tie
 
-abbrev invariant-loop : tie.invariant-loop
+abbrev invariant-loop : tie.invariant-loop-m
 invariant-loop table n e m₀ m = Apart (entries_in table) n m
 
-abbrev decreases-loop : tie.decreases-loop
+abbrev decreases-loop : tie.decreases-loop-m
 decreases-loop table n e m₀ m = n - m
 
 pub alone_spec : {M : Type 1} → statement M
 alone_spec =
     tie.close (tie.spec invariant-loop decreases-loop
     (λ c κs. search (entering, rules))  -- entry_no-e-requires
-    (λ c. search (entering, rules))  -- loop-holds
-    (λ c κs. search (entering, rules))  -- entry_no-requires
+    (λ c. search (entering, rules))  -- loop-m-init
+    (λ c κs. search (entering, rules))  -- entry_no-e-requires
     (λ c κs. search (entering, rules))  -- same_entry-requires
     (λ c. search (entering, rules))  -- returns-then-same_entry
     (λ c. search (entering, rules))  -- overflow_add-m
-    (λ c. search (entering, rules))  -- loop-less
-    (λ c. search (entering, rules))  -- loop-again
-    (λ c. search (entering, rules))  -- returns
+    (λ c. search (entering, rules))  -- loop-m-smaller
+    (λ c. search (entering, rules))  -- loop-m-preserved
+    (λ c. search (entering, rules))  -- returns-then-same_entry
     )

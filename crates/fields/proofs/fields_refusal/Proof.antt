@@ -12,23 +12,23 @@ use Rattle.fields.proofs.Fielding.{fielding}
 use Rattle.fields.proofs.fields_refusal.Statement.{statement}
 use Rattle.fields.proofs.fields_refusal.Tie as tie
 
-abbrev invariant-loop : tie.invariant-loop
+abbrev invariant-loop : tie.invariant-loop-n
 invariant-loop table types records count edition given n₀ n = Scanned (λ n. fields_rule (type_fields_meant given) (edition_meant edition) (entries_in table) (record_no (records_in records) n)) bad_field count n
 
-abbrev decreases-loop : tie.decreases-loop
+abbrev decreases-loop : tie.decreases-loop-n
 decreases-loop table types records count edition given n₀ n = count - n
 
 pub fields_refusal_spec : {M : Type 1} → statement M
 fields_refusal_spec =
     tie.close (tie.spec invariant-loop decreases-loop
-    (λ c. search (scanning, fielding, placing, rules))  -- loop-holds
+    (λ c. search (scanning, fielding, placing, rules))  -- loop-n-init
     (λ c. search (scanning, fielding, placing, rules))  -- overflow_add-n
     (λ c κs. search (scanning, fielding, placing, rules))  -- record_no-requires
     (λ c κs. search (scanning, fielding, placing, rules))  -- fields_ok-requires
     (λ c κs. search (scanning, fielding, placing, rules))  -- refuse-requires
     (λ c. search (scanning, fielding, placing, rules))  -- returns-then-not-fields_ok
-    (λ c. search (scanning, fielding, placing, rules))  -- loop-less
-    (λ c. search (scanning, fielding, placing, rules))  -- loop-again
+    (λ c. search (scanning, fielding, placing, rules))  -- loop-n-smaller
+    (λ c. search (scanning, fielding, placing, rules))  -- loop-n-preserved
     (λ c κs. search (scanning, fielding, placing, rules))  -- no_refusal-requires
-    (λ c. search (scanning, fielding, placing, rules))  -- returns
+    (λ c. search (scanning, fielding, placing, rules))  -- returns-then-not-fields_ok
     )

@@ -12,5 +12,5 @@ entry_if_any_spec =
     (λ c. search rules)  -- overflow_mul-n
     (λ c. ⊎_elim (λ w. zero_no_entry _ _ w.taken) (λ w. no_entry_beyond _ _ (ltb-true _ _ w.1.taken)) c.then-n-eq0.branch)  -- returns-then-n-eq0
     (λ c κs. search (reading, rules))  -- entry_no-requires
-    (λ c. search (reading, rules))  -- returns
+    (λ c. search (reading, rules))  -- returns-then-n-eq0
     )

@@ -14,7 +14,7 @@ function_ok_spec =
     (λ c κs. search (shapes, rules))  -- both-parts-requires
     (λ c κs. search (shapes, rules))  -- is_code-requires
     (λ c κs. search (shapes, rules))  -- is_code-requires-2
+    (λ c κs. search (shapes, rules))  -- both-parts-requires
     (λ c κs. search (shapes, rules))  -- both-requires
-    (λ c κs. search (shapes, rules))  -- both-requires-2
     (λ c. search (shapes, rules))  -- returns
     )

@@ -26,16 +26,16 @@ put_decimal_below t =
 abbrev put_decimal_claims : ℕ → put-decimal-lts.Claims
 put_decimal_claims t = (digit-of-reads.Asked, digit-of-reads.Learnt, put-byte-reads.Asked, put-byte-reads.Learnt, put_decimal_below t, put-decimal.Post)
 
-pub +put-decimal-spec : {M : Type 1} → statement M
-+put-decimal-spec = close μ_put_decimal
+pub +put_decimal_spec : {M : Type 1} → statement M
++put_decimal_spec = close μ_put_decimal
     (λ t. put-decimal-lts.spec (put_decimal_claims t) (put_decimal_at t) put-decimal.Post
-    (λ c κs. search (converting, rules))  -- digit-of-requires
-    (λ c κs. search (converting, rules))  -- put-byte-requires
-    (λ c. search (converting, rules))  -- same-length
+    (λ c κs. search (converting, rules))  -- digit_of-requires
+    (λ c κs. search (converting, rules))  -- put_byte-requires
+    (λ c. search (converting, rules))  -- shape_of-text-then-n-lt10
+    (λ c. search (converting, rules))  -- returns-then-n-lt10
+    (λ c κs. search (converting, rules))  -- put_decimal-place-requires
+    (λ c κs. search (converting, rules))  -- digit_of-requires-2
+    (λ c κs. search (converting, rules))  -- put_byte-requires-2
+    (λ c. search (converting, rules))  -- shape_of-text
     (λ c. search (converting, rules))  -- returns
-    (λ c κs. search (converting, rules))  -- put-decimal-requires
-    (λ c κs. search (converting, rules))  -- digit-of-requires-2
-    (λ c κs. search (converting, rules))  -- put-byte-requires-2
-    (λ c. search (converting, rules))  -- same-length-2
-    (λ c. search (converting, rules))  -- returns-2
     )

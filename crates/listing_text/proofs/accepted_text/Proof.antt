@@ -7,9 +7,9 @@ use Rattle.listing_text.proofs.accepted_text.Tie as tie
 pub accepted_text_spec : {M : Type 1} → statement M
 accepted_text_spec =
     tie.close (tie.spec
-    (λ c. search (printing, rules))  -- cast-put-first
-    (λ c κs. search (printing, rules))  -- put-first-requires
-    (λ c κs. search (printing, rules))  -- put-records-requires
-    (λ c. search (printing, rules))  -- same-length
+    (λ c. search (printing, rules))  -- overflow_cast-count
+    (λ c κs. search (printing, rules))  -- put_first-at-requires
+    (λ c κs. search (printing, rules))  -- put_records-requires
+    (λ c. search (printing, rules))  -- shape_of-text
     (λ c. search (printing, rules))  -- returns
     )

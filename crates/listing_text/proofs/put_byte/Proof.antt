@@ -7,8 +7,8 @@ use Rattle.listing_text.proofs.put_byte.Tie as tie
 pub put_byte_spec : {M : Type 1} → statement M
 put_byte_spec =
     tie.close (tie.spec
-    (λ c. search rules)  -- add-next
-    (λ c. search rules)  -- slice-write-text
-    (λ c. search rules)  -- same-length
+    (λ c. search rules)  -- overflow_add-next
+    (λ c. search rules)  -- bounds-text-at
+    (λ c. search rules)  -- shape_of-text
     (λ c. search (byte_wrote, rules))  -- returns
     )

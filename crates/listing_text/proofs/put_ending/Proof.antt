@@ -8,15 +8,15 @@ pub put_ending_spec : {M : Type 1} → statement M
 put_ending_spec =
     tie.close (tie.spec
     (λ c. search (wording, rules))  -- slice-aggregate-put-word
-    (λ c κs. search (wording, rules))  -- put-word-requires
+    (λ c κs. search (wording, rules))  -- put_word-requires
     (λ c. search (wording, rules))  -- slice-aggregate-put-word-2
-    (λ c κs. search (wording, rules))  -- put-word-requires-2
+    (λ c κs. search (wording, rules))  -- put_word-requires-in-2
     (λ c. search (wording, rules))  -- slice-aggregate-put-word-3
-    (λ c κs. search (wording, full_worded _ c.before.before.match.rest.0.1 c.before.before.match.rest.1, rules))  -- put-word-requires-3
-    (λ c. search (wording, rules))  -- same-length
-    (λ c. search (wording, rules))  -- returns
-    (λ c. search (wording, rules))  -- same-length-2
-    (λ c. search (wording, rules))  -- returns-2
-    (λ c. search (wording, rules))  -- same-length-3
-    (λ c. search (wording, full_worded _ c.before.before.before.before.before.match.rest.0.1 c.before.before.before.before.before.match.rest.1, rules))  -- returns-3
+    (λ c κs. search (wording, full_worded _ c.before.before.in_default.rest.0.1 c.before.before.in_default.rest.1, rules))  -- put_word-requires-in_default
+    (λ c. search (wording, rules))  -- shape_of-text-in-1
+    (λ c. search (wording, rules))  -- returns-in-1
+    (λ c. search (wording, rules))  -- shape_of-text-in-2
+    (λ c. search (wording, rules))  -- returns-in-2
+    (λ c. search (wording, rules))  -- shape_of-text-in_default
+    (λ c. search (wording, full_worded _ c.before.before.before.before.before.in_default.rest.0.1 c.before.before.before.before.before.in_default.rest.1, rules))  -- returns-in_default
     )

@@ -7,9 +7,9 @@ use Rattle.listing_text.proofs.put_first.Tie as tie
 pub put_first_spec : {M : Type 1} → statement M
 put_first_spec =
     tie.close (tie.spec
-    (λ c κs. search (lining, rules))  -- put-ending-requires
-    (λ c. search (lining, rules))  -- slice-aggregate-put-numbers
-    (λ c κs. search (lining, rules))  -- put-numbers-requires
-    (λ c. search (lining, rules))  -- same-length
+    (λ c κs. search (lining, rules))  -- put_ending-place-requires
+    (λ c. search (lining, rules))  -- slice_bounds-put_numbers-end
+    (λ c κs. search (lining, rules))  -- put_numbers-requires
+    (λ c. search (lining, rules))  -- shape_of-text
     (λ c. search (lining, rules))  -- returns
     )

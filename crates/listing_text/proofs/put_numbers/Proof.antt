@@ -7,23 +7,23 @@ use Rattle.listing_text.proofs.Numbers.{Numbering, numbering}
 use Rattle.listing_text.proofs.put_numbers.Statement.{statement}
 use Rattle.listing_text.proofs.put_numbers.Tie as tie
 
-abbrev invariant-loop : tie.invariant-loop
+abbrev invariant-loop : tie.invariant-loop-i
 invariant-loop text₀ at ns place₀ i₀ text place i = (length text ≡ length text₀) × Numbering text₀ at ns text place i
 
-abbrev decreases-loop : tie.decreases-loop
+abbrev decreases-loop : tie.decreases-loop-i
 decreases-loop text₀ at ns place₀ i₀ text place i = length ns - i
 
 pub put_numbers_spec : {M : Type 1} → statement M
 put_numbers_spec =
     tie.close (tie.spec invariant-loop decreases-loop
-    (λ c. search (numbering, rules))  -- loop-holds
-    (λ c. search (numbering, rules))  -- mul-put-spaced
-    (λ c. search (numbering, rules))  -- shared-slice-read-put-spaced
-    (λ c κs. search (numbering, rules))  -- put-spaced-requires
-    (λ c. search (numbering, rules))  -- add-i
-    (λ c. search (numbering, rules))  -- loop-less
-    (λ c. search (numbering, rules))  -- loop-again
-    (λ c κs. search (numbering, rules))  -- put-byte-requires
-    (λ c. search (numbering, rules))  -- same-length
+    (λ c. search (numbering, rules))  -- loop-i-init
+    (λ c. search (numbering, rules))  -- offset_bounds-ns-i
+    (λ c. search (numbering, rules))  -- bounds-ns-i
+    (λ c κs. search (numbering, rules))  -- put_spaced-place-requires
+    (λ c. search (numbering, rules))  -- overflow_add-i
+    (λ c. search (numbering, rules))  -- loop-i-smaller
+    (λ c. search (numbering, rules))  -- loop-i-preserved
+    (λ c κs. search (numbering, rules))  -- put_byte-requires
+    (λ c. search (numbering, rules))  -- shape_of-text
     (λ c. search (numbering, rules))  -- returns
     )

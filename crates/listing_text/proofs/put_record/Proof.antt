@@ -7,15 +7,15 @@ use Rattle.listing_text.proofs.put_record.Tie as tie
 pub put_record_spec : {M : Type 1} → statement M
 put_record_spec =
     tie.close (tie.spec
-    (λ c κs. search (lining, rules))  -- put-decimal-requires
-    (λ c. search (lining, rules))  -- cast-t9
-    (λ c. search (lining, rules))  -- cast-t10
-    (λ c. search (lining, rules))  -- cast-t11
-    (λ c. search (lining, rules))  -- cast-t12
-    (λ c. search (lining, rules))  -- cast-t13
-    (λ c. search (lining, rules))  -- cast-t14
-    (λ c. search (lining, rules))  -- slice-aggregate-put-numbers
-    (λ c κs. search (lining, rules))  -- put-numbers-requires
-    (λ c. search (lining, rules))  -- same-length
+    (λ c κs. search (lining, rules))  -- put_decimal-place-requires
+    (λ c. search (lining, rules))  -- overflow_cast-fields
+    (λ c. search (lining, rules))  -- overflow_cast-fields-2
+    (λ c. search (lining, rules))  -- overflow_cast-fields-3
+    (λ c. search (lining, rules))  -- overflow_cast-fields-4
+    (λ c. search (lining, rules))  -- overflow_cast-fields-5
+    (λ c. search (lining, rules))  -- overflow_cast-fields-6
+    (λ c. search (lining, rules))  -- slice_bounds-put_numbers-end
+    (λ c κs. search (lining, rules))  -- put_numbers-requires
+    (λ c. search (lining, rules))  -- shape_of-text
     (λ c. search (lining, rules))  -- returns
     )

@@ -7,8 +7,8 @@ use Rattle.listing_text.proofs.put_spaced.Tie as tie
 pub put_spaced_spec : {M : Type 1} → statement M
 put_spaced_spec =
     tie.close (tie.spec
-    (λ c κs. search (numbering, rules))  -- put-byte-requires
-    (λ c κs. search (numbering, rules))  -- put-decimal-requires
-    (λ c. search (numbering, rules))  -- same-length
+    (λ c κs. search (numbering, rules))  -- put_byte-place-requires
+    (λ c κs. search (numbering, rules))  -- put_decimal-requires
+    (λ c. search (numbering, rules))  -- shape_of-text
     (λ c. search (numbering, rules))  -- returns
     )

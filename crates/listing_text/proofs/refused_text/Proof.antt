@@ -8,9 +8,9 @@ pub refused_text_spec : {M : Type 1} → statement M
 refused_text_spec =
     tie.close (tie.spec
     (λ c. search (printing, rules))  -- slice-aggregate-put-word
-    (λ c κs. search (printing, rules))  -- put-word-requires
-    (λ c. search (printing, rules))  -- slice-aggregate-put-numbers
-    (λ c κs. search (printing, rules))  -- put-numbers-requires
-    (λ c. search (printing, rules))  -- same-length
+    (λ c κs. search (printing, rules))  -- put_word-at-requires
+    (λ c. search (printing, rules))  -- slice_bounds-put_numbers-end
+    (λ c κs. search (printing, rules))  -- put_numbers-requires
+    (λ c. search (printing, rules))  -- shape_of-text
     (λ c. search (printing, rules))  -- returns
     )

@@ -8,13 +8,13 @@ pub have_spec : {M : Type 1} → statement M
 have_spec =
     tie.close (tie.spec
     (λ c κs. search (looking, rules))  -- larger-requires
-    (λ c κs. search (looking, rules))  -- count-before-requires
+    (λ c κs. search (looking, rules))  -- count_before-found-requires
     (λ c. search (looking, rules))  -- add-t8
-    (λ c. search (looking, rules))  -- same-length
-    (λ c. search (looking, rules))  -- returns
-    (λ c κs. search (looking, rules))  -- put-entry-requires
+    (λ c. search (looking, rules))  -- shape_of-table-then-found-types
+    (λ c. search (looking, rules))  -- returns-then-found-types
+    (λ c κs. search (looking, rules))  -- put_entry-requires
     (λ c. search (looking, rules))  -- add-t13
-    (λ c. search (looking, rules))  -- add-t14
-    (λ c. search (looking, rules))  -- same-length-2
-    (λ c. search (looking, rules))  -- returns-2
+    (λ c. search (looking, rules))  -- overflow_add-result-3
+    (λ c. search (looking, rules))  -- shape_of-table
+    (λ c. search (looking, rules))  -- returns
     )

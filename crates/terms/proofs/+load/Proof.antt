@@ -29,24 +29,24 @@ load_below t = and 2 load-kinds.ps (falls 2 load-kinds.ps ◌<◌ μ_load t) loa
 abbrev load_claims : ℕ → load-lts.Claims
 load_claims t = (put-root-reads.Asked, put-root-reads.Learnt, load_below t, load.Post, sibling-reads.Asked, sibling-reads.Learnt, mark-root-reads.Asked, mark-root-reads.Learnt)
 
-abbrev load-Inv-loop : load-lts.invariant-loop
+abbrev load-Inv-loop : load-lts.invariant-loop-child
 load-Inv-loop program n left w₀ dst child₀ at₀ w child at = (length w ≡ length w₀) × Loading (records_in program) n left (records_in w₀) at₀ (records_in w) at child
 
-abbrev load_μ_loop : load-lts.decreases-loop
+abbrev load_μ_loop : load-lts.decreases-loop-child
 load_μ_loop program n left w₀ dst child₀ at₀ w child at = length (records_in w₀) - at
 
-pub +load-spec : {M : Type 1} → statement M
-+load-spec = close μ_load
+pub +load_spec : {M : Type 1} → statement M
++load_spec = close μ_load
     (λ t. load-lts.spec (load_claims t) (load_at t) load.Post load-Inv-loop load_μ_loop
-    (λ c κs. search (loading, rules))  -- put-root-requires
-    (λ c. search (loading, rules))  -- add-at
-    (λ c. search (loading, rules))  -- loop-holds
-    (λ c. search (loading, rules))  -- sub-load
-    (λ c κs. search (loading, rules))  -- load-requires
-    (λ c κs. load_reads _ _ _ _ _ _ _ _ c.before.before.before.before.before.loop.invariant.1 c.before.before.before.before.loop-test.true)  -- sibling-requires
-    (λ c. search (loading, rules))  -- loop-less
-    (λ c. search (loading, rules))  -- loop-again
-    (λ c κs. search (loading, rules))  -- mark-root-requires
-    (λ c. search (loading, rules))  -- same-length
+    (λ c κs. search (loading, rules))  -- put_root-child-requires
+    (λ c. search (loading, rules))  -- overflow_add-at
+    (λ c. search (loading, rules))  -- loop-child-init
+    (λ c. search (loading, rules))  -- overflow_sub-left
+    (λ c κs. search (loading, rules))  -- load-at-requires
+    (λ c κs. load_reads _ _ _ _ _ _ _ _ c.loop-child.invariant.1 c.loop-child-test.true)  -- sibling-child-requires
+    (λ c. search (loading, rules))  -- loop-child-smaller
+    (λ c. search (loading, rules))  -- loop-child-preserved
+    (λ c κs. search (loading, rules))  -- mark_root-requires
+    (λ c. search (loading, rules))  -- shape_of-w
     (λ c. search (loading, rules))  -- returns
     )

@@ -7,6 +7,6 @@ use Rattle.terms.proofs.sibling.Tie as tie
 pub sibling_spec : {M : Type 1} → statement M
 sibling_spec =
     tie.close (tie.spec
-    (λ c κs. search rules)  -- record-no-requires
+    (λ c κs. search rules)  -- record_no-r-requires
     (λ c. search (numbering, rules))  -- returns
     )

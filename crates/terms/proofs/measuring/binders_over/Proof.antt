@@ -10,9 +10,9 @@ use Rattle.terms.proofs.measuring.binders_over.Tie as tie
 pub binders_over_spec : {M : Type 1} → statement M
 binders_over_spec =
     tie.close (tie.spec
-    (λ c κs. search rules)  -- binders-first-requires
-    (λ c κs. search rules)  -- binders-second-requires
-    (λ c. c.binders-first.ensures ∙ ap (binders_over (kind_of c.before.before.args.kind)) (sym c.before.match.keys1))  -- returns
-    (λ c. c.binders-second.ensures ∙ ap (binders_over (kind_of c.before.before.args.kind)) (sym c.before.match.keys2))  -- returns-2
-    (λ c. sym (over_others (kind_of c.before.args.kind) c.before.args.j c.match.rest.0.1 c.match.rest.1))  -- returns-3
+    (λ c κs. search rules)  -- binders_first-requires
+    (λ c κs. search rules)  -- binders_second-requires
+    (λ c. c.binders_first.ensures ∙ ap (binders_over (kind_of c.args.kind)) (sym c.before.in_default.keys1))  -- returns-in-0
+    (λ c. c.binders_second.ensures ∙ ap (binders_over (kind_of c.args.kind)) (sym c.before.in_default.keys2))  -- returns-in-1
+    (λ c. sym (over_others (kind_of c.args.kind) c.args.j c.in_default.rest.0.1 c.in_default.rest.1))  -- returns-in_default
     )

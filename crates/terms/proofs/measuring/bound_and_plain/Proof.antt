@@ -7,9 +7,9 @@ use Rattle.terms.proofs.measuring.bound_and_plain.Tie as tie
 pub bound_and_plain_spec : {M : Type 1} → statement M
 bound_and_plain_spec =
     tie.close (tie.spec
-    (λ c. search rules)  -- mul-result
-    (λ c. search rules)  -- add-result
-    (λ c. search rules)  -- mul-result-2
-    (λ c. rw c.if1.true)  -- returns
-    (λ c. rw c.if1.false (omega arith))  -- returns-2
+    (λ c. search rules)  -- overflow_mul-result
+    (λ c. search rules)  -- overflow_add-result
+    (λ c. search rules)  -- overflow_mul-result-else-plain
+    (λ c. rw c.if-plain.true)  -- returns-then-plain
+    (λ c. rw c.if-plain.false (omega arith))  -- returns-else-plain
     )

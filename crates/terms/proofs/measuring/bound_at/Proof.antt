@@ -5,4 +5,4 @@ use Rattle.terms.proofs.measuring.bound_at.Statement.{statement}
 use Rattle.terms.proofs.measuring.bound_at.Tie as tie
 
 pub bound_at_spec : {M : Type 1} → statement M
-bound_at_spec = tie.close (tie.spec (λ c κs. search (tree_first, rules)) (λ c. bound_reads _ _ _ c.before.get.ensures))
+bound_at_spec = tie.close (tie.spec (λ c κs. search (tree_first, rules)) (λ c. bound_reads _ _ _ c.get-r.ensures))

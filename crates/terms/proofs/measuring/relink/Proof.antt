@@ -8,8 +8,8 @@ use Rattle.terms.proofs.measuring.relink.Tie as tie
 pub relink_spec : {M : Type 1} → statement M
 relink_spec =
     tie.close (tie.spec
-    (λ c κs. search rules)  -- get-requires
+    (λ c κs. search rules)  -- get-r-requires
     (λ c κs. search rules)  -- put-requires
-    (λ c. search rules)  -- same-length
-    (λ c. relinked _ _ _ _ _ _ _ c.before.before.before.before.get.ensures refl c.before.before.put.ensures)  -- returns
+    (λ c. search rules)  -- shape_of-w
+    (λ c. relinked _ _ _ _ _ _ _ c.get-r.ensures refl c.put.ensures)  -- returns
     )
