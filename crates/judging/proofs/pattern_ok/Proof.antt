@@ -19,11 +19,11 @@ pattern_ok_spec =
     (λ c κs. search rules)  -- both-requires
     (λ c κs. search rules)  -- function_ok-requires
     (λ c κs. search rules)  -- fix_ok-requires
-    (λ c. kind_pattern _ _ _ _ _ _ _ (ap kind_of c.before.in_default.keys1) (λ Γ g. c.is_nat.ensures))  -- returns-in-9
-    (λ c. kind_pattern _ _ _ _ _ _ _ (ap kind_of c.in_default.keys2) (λ Γ g. equal_test _ _ _ g))  -- returns-in-10
-    (λ c. shape_pattern _ _ _ _ _ _ match_application (ap kind_of c.before.in_default.keys3) c.application_ok.ensures)  -- returns-in-11
-    (λ c. kind_pattern _ _ _ _ _ _ _ (ap kind_of c.before.before.before.in_default.keys4) (λ Γ g. first_test _ _ _ _ _ c.is_nat-in-12.ensures c.is_nat-in-12-2.ensures c.both.ensures))  -- returns-in-12
-    (λ c. shape_pattern _ _ _ _ _ _ match_function (ap kind_of c.before.in_default.keys5) c.function_ok.ensures)  -- returns-in-13
+    (λ c. kind_pattern _ _ _ _ _ _ _ (ap kind_of c.in-9.is) (λ Γ g. c.is_nat.ensures))  -- returns-in-9
+    (λ c. kind_pattern _ _ _ _ _ _ _ (ap kind_of c.in-10.is) (λ Γ g. equal_test _ _ _ g))  -- returns-in-10
+    (λ c. shape_pattern _ _ _ _ _ _ match_application (ap kind_of c.in-11.is) c.application_ok.ensures)  -- returns-in-11
+    (λ c. kind_pattern _ _ _ _ _ _ _ (ap kind_of c.in-12.is) (λ Γ g. first_test _ _ _ _ _ c.is_nat-in-12.ensures c.is_nat-in-12-2.ensures c.both.ensures))  -- returns-in-12
+    (λ c. shape_pattern _ _ _ _ _ _ match_function (ap kind_of c.in-13.is) c.function_ok.ensures)  -- returns-in-13
     (λ c.
     let e : c.args.kind ≡ 14 = omega arith in
     shape_pattern _ _ _ _ _ _ match_fix (ap kind_of e) c.fix_ok.ensures)  -- returns-in_default

@@ -31,26 +31,26 @@ write_tree_below t =
 abbrev write_tree_claims : ℕ → write-tree-lts.Claims
 write_tree_claims t = (put-record-reads.Asked, put-record-reads.Learnt, skip_reads.Asked, skip_reads.Learnt, link_reads.Asked, link_reads.Learnt, write_tree_below t, write-tree.Post)
 
-abbrev write_tree-Inv-loop : write-tree-lts.invariant-loop
+abbrev write_tree-Inv-loop : write-tree-lts.invariant-loop-left
 write_tree-Inv-loop w i out₀ next done₀ left₀ at₀ out done left at = (length out ≡ length out₀) × Writing (records_in w) at₀ out₀ done₀ left₀ out done left at
 
-abbrev write_tree_μ_loop : write-tree-lts.decreases-loop
+abbrev write_tree_μ_loop : write-tree-lts.decreases-loop-left
 write_tree_μ_loop w i out₀ next done₀ left₀ at₀ out done left at = left
 
-pub +write-tree-spec : {M : Type 1} → statement M
-+write-tree-spec = close μ_write_tree
+pub +write_tree_spec : {M : Type 1} → statement M
++write_tree_spec = close μ_write_tree
     (λ t. write-tree-lts.spec (write_tree_claims t) (write_tree_at t) write-tree.Post write_tree-Inv-loop write_tree_μ_loop
-    (λ c κs. search (writing_tree, rules))  -- put-record-requires
-    (λ c. search (writing_tree, rules))  -- add-at
-    (λ c. search (writing_tree, rules))  -- loop-holds
-    (λ c. search (writing_tree, rules))  -- sub-left
-    (λ c κs. search (writing_tree, rules))  -- skip-requires
-    (λ c. search (writing_tree, rules))  -- sub-link
-    (λ c. search (writing_tree, rules))  -- cast-link
-    (λ c κs. search (writing_tree, rules))  -- link-requires
-    (λ c κs. search (writing_tree, rules))  -- write-tree-requires
-    (λ c. search (writing_tree, rules))  -- loop-less
-    (λ c. search (writing_tree, rules))  -- loop-again
-    (λ c. search (writing_tree, rules))  -- same-length
+    (λ c κs. search (writing_tree, rules))  -- put_record-root-requires
+    (λ c. search (writing_tree, rules))  -- overflow_add-at
+    (λ c. search (writing_tree, rules))  -- loop-left-init
+    (λ c. search (writing_tree, rules))  -- overflow_sub-left
+    (λ c κs. search (writing_tree, rules))  -- skip-after-requires
+    (λ c. search (writing_tree, rules))  -- overflow_sub-after
+    (λ c. search (writing_tree, rules))  -- overflow_cast-after
+    (λ c κs. search (writing_tree, rules))  -- link-sibling-requires
+    (λ c κs. search (writing_tree, rules))  -- write_tree-done-requires
+    (λ c. search (writing_tree, rules))  -- loop-left-smaller
+    (λ c. search (writing_tree, rules))  -- loop-left-preserved
+    (λ c. search (writing_tree, rules))  -- shape_of-out
     (λ c. search (writing_tree, rules))  -- returns
     )

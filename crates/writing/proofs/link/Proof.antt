@@ -9,7 +9,7 @@ pub link_spec : {M : Type 1} → statement M
 unfolding link_to
 link_spec =
     tie.close (tie.spec
-    (λ c. search rules)  -- add-result
-    (λ c. rw c.if1.true)  -- returns
-    (λ c. rw (ne_eqb _ _ c.if1.false))  -- returns-2
+    (λ c. search rules)  -- overflow_add-result
+    (λ c. rw c.if-count-eq0.true)  -- returns-then-count-eq0
+    (λ c. rw (ne_eqb _ _ c.if-count-eq0.false))  -- returns-else-count-eq0
     )

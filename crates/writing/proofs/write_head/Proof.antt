@@ -7,12 +7,12 @@ use Rattle.writing.proofs.write_head.Tie as tie
 pub write_head_spec : {M : Type 1} → statement M
 write_head_spec =
     tie.close (tie.spec
-    (λ c κs. search rules)  -- get-requires
-    (λ c κs. search rules)  -- children-requires
+    (λ c κs. search rules)  -- get-r-requires
+    (λ c κs. search rules)  -- children-children-requires
     (λ c κs. search rules)  -- first-link-requires
-    (λ c. search rules)  -- sub-put
-    (λ c. search rules)  -- cast-put
+    (λ c. search rules)  -- overflow_sub-number
+    (λ c. search rules)  -- overflow_cast-number
     (λ c κs. search rules)  -- put-requires
-    (λ c. search rules)  -- same-length
+    (λ c. search rules)  -- shape_of-out
     (λ c. search heads)  -- returns
     )

@@ -9,12 +9,12 @@ write_program_spec =
     tie.close (tie.spec
     (λ c κs. search rules)  -- put16-requires
     (λ c κs. search rules)  -- put16-requires-2
-    (λ c κs. search rules)  -- copy-bytes-requires
-    (λ c. search rules)  -- mul-write-records
-    (λ c. search rules)  -- add-write-records
-    (λ c κs. can_write_tree c.before.before.before.before.before.before.before.before.before.before.before.before.before.before.before.before.requires (search rules))  -- write-records-requires
-    (λ c. search rules)  -- same-length
+    (λ c κs. search rules)  -- copy_bytes-requires
+    (λ c. search rules)  -- overflow_mul-types
+    (λ c. search rules)  -- overflow_add-types
+    (λ c κs. can_write_tree c.requires (search rules))  -- write_records-requires
+    (λ c. search rules)  -- shape_of-out
     (λ c.
-    program_written (λ k. (c.before.before.before.before.before.before.before.before.before.before.before.before.before.before.before.before.before.before.shared-slice-known.given k).fits) c.before.before.before.before.before.before.before.before.before.before.before.before.before.before.put16.ensures c.before.before.before.before.before.before.before.before.before.before.put162.ensures c.before.before.before.before.before.before.copy-bytes.ensures (search rules)
-    c.before.before.write-records.ensures)  -- returns
+    program_written (λ k. (c.shared_slice_known-1.given k).fits) c.put16.ensures c.put16-2.ensures c.copy_bytes.ensures (search rules)
+    c.write_records.ensures)  -- returns
     )

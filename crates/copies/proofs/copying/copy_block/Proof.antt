@@ -7,8 +7,8 @@ use Rattle.copies.proofs.copying.copy_block.Tie as tie
 pub copy_block_spec : {M : Type 1} → statement M
 copy_block_spec =
     tie.close (tie.spec
-    (λ c κs. search (parts, rules))  -- copy-flat-requires
-    (λ c. search (parts, rules))  -- add-result
-    (λ c. search (parts, rules))  -- same-length
+    (λ c κs. search (parts, rules))  -- copy_flat-requires
+    (λ c. search (parts, rules))  -- overflow_add-result
+    (λ c. search (parts, rules))  -- shape_of-w
     (λ c. search (parts, rules))  -- returns
     )

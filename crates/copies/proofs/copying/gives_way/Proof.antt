@@ -7,7 +7,7 @@ use Rattle.copies.proofs.copying.gives_way.Tie as tie
 pub gives_way_spec : {M : Type 1} → statement M
 gives_way_spec =
     tie.close (tie.spec
-    (λ c κs. search (parts, rules))  -- names-removed-requires
-    (λ c. search (parts, rules))  -- returns
-    (λ c. search (parts, rules))  -- returns-2
+    (λ c κs. search (parts, rules))  -- names_removed-requires
+    (λ c. search (parts, rules))  -- returns-then-children-eq0
+    (λ c. search (parts, rules))  -- returns-else-children-eq0
     )

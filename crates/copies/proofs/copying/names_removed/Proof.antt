@@ -6,6 +6,6 @@ use Rattle.copies.proofs.copying.names_removed.Tie as tie
 pub names_removed_spec : {M : Type 1} → statement M
 names_removed_spec =
     tie.close (tie.spec
-    (λ c. names_inner _ _ _ c.if1.true)  -- returns
-    (λ c. names_outer _ _ _ c.if1.false)  -- returns-2
+    (λ c. names_inner _ _ _ c.if-i-d.true)  -- returns-then-i-d
+    (λ c. names_outer _ _ _ c.if-i-d.false)  -- returns-else-i-d
     )

@@ -7,7 +7,7 @@ use Rattle.copies.proofs.copying.tree_size.Tie as tie
 pub tree_size_spec : {M : Type 1} → statement M
 tree_size_spec =
     tie.close (tie.spec
-    (λ c κs. search (parts, rules))  -- get-requires
-    (λ c. search (parts, rules))  -- cast-result
+    (λ c κs. search (parts, rules))  -- get-r-requires
+    (λ c. search (parts, rules))  -- overflow_cast-result
     (λ c. search (parts, rules))  -- returns
     )

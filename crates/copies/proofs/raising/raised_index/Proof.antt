@@ -8,8 +8,8 @@ use Rattle.copies.proofs.raising.raised_index.Tie as tie
 pub raised_index_spec : {M : Type 1} → statement M
 raised_index_spec =
     tie.close (tie.spec
-    (λ c. search rules)  -- cast-result
-    (λ c. search (product_fits, rules))  -- mul-result
-    (λ c. omega (arith, index_sum c.args.n c.args.d c.args.i, c.requires))  -- add-result
+    (λ c. search rules)  -- overflow_cast-result
+    (λ c. search (product_fits, rules))  -- overflow_mul-result
+    (λ c. omega (arith, index_sum c.args.n c.args.d c.args.i, c.requires))  -- overflow_add-result
     (λ c. index_sum _ _ _)  -- returns
     )

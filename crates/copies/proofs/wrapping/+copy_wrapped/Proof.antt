@@ -58,43 +58,43 @@ copy_wrapped_claims t = (
   mark-root-reads.Learnt,
 )
 
-abbrev copy_wrapped-Inv-loop : copy-wrapped-lts.invariant-loop
+abbrev copy_wrapped-Inv-loop : copy-wrapped-lts.invariant-loop-j
 copy_wrapped-Inv-loop w₀ src dst n d code bound kind children at₀ to₀ j₀ w at to j = (length w ≡ length w₀) × Wraps (records_in w₀) src dst n code d kind children (records_in w) at to j
 
-abbrev copy_wrapped_μ_loop : copy-wrapped-lts.decreases-loop
+abbrev copy_wrapped_μ_loop : copy-wrapped-lts.decreases-loop-j
 copy_wrapped_μ_loop w₀ src dst n d code bound kind children at₀ to₀ j₀ w at to j = children - j
 
-pub +copy-wrapped-spec : {M : Type 1} → statement M
-+copy-wrapped-spec = close μ_copy_wrapped
+pub +copy_wrapped_spec : {M : Type 1} → statement M
++copy_wrapped_spec = close μ_copy_wrapped
     (λ t. copy-wrapped-lts.spec (copy_wrapped_claims t) (copy_wrapped_at t) copy-wrapped.Post copy_wrapped-Inv-loop copy_wrapped_μ_loop
-    (λ c κs. search (wrapping_laws, rules))  -- get-requires
-    (λ c κs. search (wrapping_laws, rules))  -- children-requires
-    (λ c. search (wrapping_laws, rules))  -- add-gives-way
-    (λ c κs. search (wrapping_laws, rules))  -- gives-way-requires
-    (λ c κs. search (wrapping_laws, rules))  -- put-use-requires
-    (λ c. search (wrapping_laws, rules))  -- same-length
+    (λ c κs. search (wrapping_laws, rules))  -- get-r-requires
+    (λ c κs. search (wrapping_laws, rules))  -- children-children-requires
+    (λ c. search (wrapping_laws, rules))  -- overflow_add-d
+    (λ c κs. search (wrapping_laws, rules))  -- gives_way-requires
+    (λ c κs. search (wrapping_laws, rules))  -- put_use-requires
+    (λ c. search (wrapping_laws, rules))  -- shape_of-w-then-gives_way
+    (λ c. search (wrapping_laws, rules))  -- returns-then-gives_way
+    (λ c. search (wrapping_laws, rules))  -- overflow_add-d-then-children-eq0
+    (λ c κs. search (wrapping_laws, rules))  -- copy_raised-requires
+    (λ c. search (wrapping_laws, rules))  -- overflow_add-result
+    (λ c. search (wrapping_laws, rules))  -- shape_of-w-then-children-eq0
+    (λ c. search (wrapping_laws, rules))  -- returns-then-children-eq0
+    (λ c. search (wrapping_laws, rules))  -- overflow_cast-r
+    (λ c κs. search (wrapping_laws, rules))  -- copy_block-requires
+    (λ c. search (wrapping_laws, rules))  -- shape_of-w-then-bound-d
+    (λ c. search (wrapping_laws, rules))  -- returns-then-bound-d
+    (λ c κs. search (wrapping_laws, rules))  -- wrap_root-requires
+    (λ c. search (wrapping_laws, rules))  -- overflow_add-at
+    (λ c. search (wrapping_laws, rules))  -- overflow_add-to
+    (λ c. (search rules, search (wrapping_laws, rules)))  -- loop-j-init
+    (λ c κs. search (wrapping_laws, rules))  -- skip-after-requires
+    (λ c κs. search (wrapping_laws, rules))  -- binders_over-requires
+    (λ c. search (wrapping_laws, rules))  -- overflow_add-d-in-loop-j
+    (λ c κs. (search wrap_falls, search (wrapping_laws, rules)))  -- copy_wrapped-to-requires
+    (λ c. search (wrapping_laws, rules))  -- overflow_add-j
+    (λ c. search (wrapping_laws, rules))  -- loop-j-smaller
+    (λ c. search (wrapping_laws, rules))  -- loop-j-preserved
+    (λ c κs. search (wrapping_laws, rules))  -- mark_root-requires
+    (λ c. search (wrapping_laws, rules))  -- shape_of-w
     (λ c. search (wrapping_laws, rules))  -- returns
-    (λ c. search (wrapping_laws, rules))  -- add-copy-raised
-    (λ c κs. search (wrapping_laws, rules))  -- copy-raised-requires
-    (λ c. search (wrapping_laws, rules))  -- add-result
-    (λ c. search (wrapping_laws, rules))  -- same-length-2
-    (λ c. search (wrapping_laws, rules))  -- returns-2
-    (λ c. search (wrapping_laws, rules))  -- cast-copy-block
-    (λ c κs. search (wrapping_laws, rules))  -- copy-block-requires
-    (λ c. search (wrapping_laws, rules))  -- same-length-3
-    (λ c. search (wrapping_laws, rules))  -- returns-3
-    (λ c κs. search (wrapping_laws, rules))  -- wrap-root-requires
-    (λ c. search (wrapping_laws, rules))  -- add-at
-    (λ c. search (wrapping_laws, rules))  -- add-to
-    (λ c. (search rules, search (wrapping_laws, rules)))  -- loop-holds
-    (λ c κs. search (wrapping_laws, rules))  -- skip-requires
-    (λ c κs. search (wrapping_laws, rules))  -- binders-over-requires
-    (λ c. search (wrapping_laws, rules))  -- add-copy-wrapped
-    (λ c κs. (search wrap_falls, search (wrapping_laws, rules)))  -- copy-wrapped-requires
-    (λ c. search (wrapping_laws, rules))  -- add-j
-    (λ c. search (wrapping_laws, rules))  -- loop-less
-    (λ c. search (wrapping_laws, rules))  -- loop-again
-    (λ c κs. search (wrapping_laws, rules))  -- mark-root-requires
-    (λ c. search (wrapping_laws, rules))  -- same-length-4
-    (λ c. search (wrapping_laws, rules))  -- returns-4
     )

@@ -7,9 +7,9 @@ use Rattle.copies.proofs.wrapping.wrap_root.Tie as tie
 pub wrap_root_spec : {M : Type 1} → statement M
 wrap_root_spec =
     tie.close (tie.spec
-    (λ c. search (parts, rules))  -- add-raised-field
-    (λ c κs. search (parts, rules))  -- raised-field-requires
-    (λ c κs. search (parts, rules))  -- put-indexed-requires
-    (λ c. search (parts, rules))  -- same-length
+    (λ c. search (parts, rules))  -- overflow_add-d
+    (λ c κs. search (parts, rules))  -- raised_field-a-requires
+    (λ c κs. search (parts, rules))  -- put_indexed-requires
+    (λ c. search (parts, rules))  -- shape_of-w
     (λ c. search (parts, rules))  -- returns
     )

@@ -12,7 +12,7 @@ binders_over_spec =
     tie.close (tie.spec
     (λ c κs. search rules)  -- binders_first-requires
     (λ c κs. search rules)  -- binders_second-requires
-    (λ c. c.binders_first.ensures ∙ ap (binders_over (kind_of c.args.kind)) (sym c.before.in_default.keys1))  -- returns-in-0
-    (λ c. c.binders_second.ensures ∙ ap (binders_over (kind_of c.args.kind)) (sym c.before.in_default.keys2))  -- returns-in-1
-    (λ c. sym (over_others (kind_of c.args.kind) c.args.j c.in_default.rest.0.1 c.in_default.rest.1))  -- returns-in_default
+    (λ c. c.binders_first.ensures ∙ ap (binders_over (kind_of c.args.kind)) (sym c.in-0.is))  -- returns-in-0
+    (λ c. c.binders_second.ensures ∙ ap (binders_over (kind_of c.args.kind)) (sym c.in-1.is))  -- returns-in-1
+    (λ c. sym (over_others (kind_of c.args.kind) c.args.j (search rules) (search rules)))  -- returns-in_default
     )
