@@ -7,16 +7,16 @@ use Rattle.assigning.proofs.assign.Tie as tie
 pub assign_spec : {M : Type 1} → statement M
 assign_spec =
     tie.close (tie.spec
-    (λ c. search (assigning, rules))  -- mul-wanted
-    (λ c. search (assigning, rules))  -- slice-reshare-prefix-wanted
-    (λ c. search (assigning, rules))  -- slice-aggregate-wanted
-    (λ c κs. search (assigning, rules))  -- wanted-requires
-    (λ c κs. search (assigning, rules))  -- hold-requires
-    (λ c. search (assigning, rules))  -- cast-end
-    (λ c. search (assigning, rules))  -- mul-end
-    (λ c. search (assigning, rules))  -- slice-reshare-prefix-fault
-    (λ c. search (assigning, rules))  -- slice-aggregate-fault
-    (λ c κs. search (assigning, rules))  -- fault-requires
-    (λ c. search (assigning, rules))  -- same-length
+    (λ c. search (assigning, rules))  -- overflow_mul-types
+    (λ c. search (assigning, rules))  -- slice_bounds-wanted-end
+    (λ c. search (assigning, rules))  -- slice_bounds-wanted-end-2
+    (λ c κs. search (assigning, rules))  -- wanted-w-requires
+    (λ c κs. search (assigning, rules))  -- hold-held-requires
+    (λ c. search (assigning, rules))  -- overflow_cast-end
+    (λ c. search (assigning, rules))  -- overflow_mul-end
+    (λ c. search (assigning, rules))  -- slice_bounds-fault-end
+    (λ c. search (assigning, rules))  -- slice_bounds-fault-end-2
+    (λ c κs. search (assigning, rules))  -- fault-v-requires
+    (λ c. search (assigning, rules))  -- shape_of-table
     (λ c. search (assigning, rules))  -- returns
     )

@@ -7,10 +7,10 @@ use Rattle.assigning.proofs.hold.Tie as tie
 pub hold_spec : {M : Type 1} → statement M
 hold_spec =
     tie.close (tie.spec
-    (λ c. search (assigning, rules))  -- enum-known-w
-    (λ c. search (assigning, rules))  -- enum-known-w-2
-    (λ c κs. can_have _ _ _ _ c.before.before.before.before.before.requires c.before.before.w2.given.1)  -- have-requires
-    (λ c. rw c.before.w.given.1 (has_known _ _ _))  -- returns
-    (λ c. search (assigning, rules))  -- same-length
-    (λ c. rw c.before.before.before.before.before.w2.given.1 (has_made _ _ _ _ _ c.before.before.have.ensures))  -- returns-2
+    (λ c. search (assigning, rules))  -- enum_known-w
+    (λ c. search (assigning, rules))  -- enum_known-w-in-Made-1
+    (λ c κs. can_have _ _ _ _ c.requires c.before.before.w2.given.1)  -- have-requires
+    (λ c. rw c.before.w.given.1 (has_known _ _ _))  -- returns-in-Known
+    (λ c. search (assigning, rules))  -- shape_of-table
+    (λ c. rw c.before.before.before.before.before.w2.given.1 (has_made _ _ _ _ _ c.have.ensures))  -- returns-in-Made
     )

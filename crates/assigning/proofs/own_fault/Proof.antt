@@ -8,17 +8,17 @@ pub own_fault_spec : {M : Type 1} → statement M
 own_fault_spec =
     tie.close (tie.spec
     (λ c κs. search rules)  -- judge-requires
-    (λ c κs. search rules)  -- judge-requires-2
-    (λ c κs. search rules)  -- judge-requires-3
-    (λ c κs. search rules)  -- judge-requires-4
-    (λ c κs. search rules)  -- judge-requires-5
-    (λ c κs. search rules)  -- judge-requires-6
-    (λ c κs. search rules)  -- judge-requires-7
-    (λ c. search (judges_known, rules))  -- returns
-    (λ c. search (judges_known, rules))  -- returns-2
-    (λ c. search (judges_known, rules))  -- returns-3
-    (λ c. search (judges_known, rules))  -- returns-4
-    (λ c. search (judges_known, rules))  -- returns-5
-    (λ c. search (judges_known, rules))  -- returns-6
-    (λ c. search rules)  -- returns-7
+    (λ c κs. search rules)  -- judge-requires-in-2
+    (λ c κs. search rules)  -- judge-requires-in-3
+    (λ c κs. search rules)  -- judge-requires-in-4
+    (λ c κs. search rules)  -- judge-requires-in-7
+    (λ c κs. search rules)  -- judge-requires-in-8
+    (λ c κs. search rules)  -- judge-requires-in_default
+    (λ c. search (judges_known, rules))  -- returns-in-1
+    (λ c. search (judges_known, rules))  -- returns-in-2
+    (λ c. search (judges_known, rules))  -- returns-in-3
+    (λ c. search (judges_known, rules))  -- returns-in-4
+    (λ c. search (judges_known, rules))  -- returns-in-7
+    (λ c. search (judges_known, rules))  -- returns-in-8
+    (λ c. search rules)  -- returns-in_default
     )

@@ -14,18 +14,18 @@ pub wanted_spec : {M : Type 1} → statement M
 unfolding kind_of numbered wanted_meant
 wanted_spec =
     tie.close (tie.spec
-    (λ c κs. search rules)  -- binder-at-requires
-    (λ c κs. search rules)  -- entry-if-any-requires
-    (λ c κs. search rules)  -- entry-if-any-requires-2
-    (λ c κs. search rules)  -- entry-if-any-requires-3
-    (λ c. kind_wants _ _ _ _ _ _ _ (ap kind_of c.before.match.keys1) (ap (λ b. known b.type) c.binder-at.ensures.is))  -- returns
-    (λ c. kind_wants _ _ _ _ _ _ _ (ap kind_of c.match.keys2) refl)  -- returns-2
-    (λ c. kind_wants _ _ _ _ _ _ _ (ap kind_of c.before.match.keys3) (ap (λ e. known e.b) c.entry-if-any.ensures.is))  -- returns-3
-    (λ c. kind_wants _ _ _ _ _ _ _ (ap kind_of c.before.match.keys4) (ap (λ e. known e.a) c.entry-if-any2.ensures.is))  -- returns-4
-    (λ c. kind_wants _ _ _ _ _ _ _ (ap kind_of c.match.keys5) refl)  -- returns-5
-    (λ c. kind_wants _ _ _ _ _ _ _ (ap kind_of c.match.keys6) refl)  -- returns-6
-    (λ c. kind_wants _ _ _ _ _ _ _ (ap kind_of c.before.match.keys7) (ap (λ e. known e.a) c.entry-if-any3.ensures.is))  -- returns-7
-    (λ c. match_wants _ _ _ _ _ _ (search (a_match, rules)) refl)  -- returns-8
-    (λ c. kind_wants _ _ _ _ _ _ _ (first_kind _ (λ a b. not-le_of_lt c.if1.true a)) refl)  -- returns-9
-    (λ c. kind_wants _ _ _ _ _ _ _ (first_kind _ (λ a b. not-le_of_lt b c.if2.false)) refl)  -- returns-10
+    (λ c κs. search rules)  -- binder_at-b-requires
+    (λ c κs. search rules)  -- entry_if_any-e-requires
+    (λ c κs. search rules)  -- entry_if_any-e-requires-in-5
+    (λ c κs. search rules)  -- entry_if_any-e-requires-in-8
+    (λ c. kind_wants _ _ _ _ _ _ _ (ap kind_of c.in-2.is) (ap (λ b. known b.type) c.binder_at-b.ensures.is))  -- returns-in-2
+    (λ c. kind_wants _ _ _ _ _ _ _ (ap kind_of c.in-3.is) refl)  -- returns-in-3
+    (λ c. kind_wants _ _ _ _ _ _ _ (ap kind_of c.in-4.is) (ap (λ e. known e.b) c.entry_if_any-e.ensures.is))  -- returns-in-4
+    (λ c. kind_wants _ _ _ _ _ _ _ (ap kind_of c.in-5.is) (ap (λ e. known e.a) c.entry_if_any-e-in-5.ensures.is))  -- returns-in-5
+    (λ c. kind_wants _ _ _ _ _ _ _ (ap kind_of c.in-6.is) refl)  -- returns-in-6
+    (λ c. kind_wants _ _ _ _ _ _ _ (ap kind_of c.in-7.is) refl)  -- returns-in-7
+    (λ c. kind_wants _ _ _ _ _ _ _ (ap kind_of c.in-8.is) (ap (λ e. known e.a) c.entry_if_any-e-in-8.ensures.is))  -- returns-in-8
+    (λ c. match_wants _ _ _ _ _ _ (search (a_match, rules)) refl)  -- returns-in-9-to-14
+    (λ c. kind_wants _ _ _ _ _ _ _ (first_kind _ (λ a b. not-le_of_lt c.if-kind-lt2.true a)) refl)  -- returns-in_default
+    (λ c. kind_wants _ _ _ _ _ _ _ (first_kind _ (λ a b. not-le_of_lt b c.if-kind-lt15.false)) refl)  -- returns-in_default-2
     )

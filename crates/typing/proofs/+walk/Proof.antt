@@ -43,22 +43,22 @@ walk_claims t = (own-refusal-reads.Asked, own-refusal-reads.Learnt, packed-reads
 -- where that one is entered, and where its tree has passed; and from each the one before it.
 module _ (t : ℕ) where
   abbrev Own : Type 0
-  Own = walk-lts.Else1 (walk_claims t) (walk_at t) walk.Post
+  Own = walk-lts.Else-own-ne0 (walk_claims t) (walk_at t) walk.Post
 
   abbrev HasFirst : Type 0
-  HasFirst = walk-lts.Else2 (walk_claims t) (walk_at t) walk.Post
+  HasFirst = walk-lts.Else-c-eq0 (walk_claims t) (walk_at t) walk.Post
 
   abbrev First : Type 0
-  First = walk-lts.Else3 (walk_claims t) (walk_at t) walk.Post
+  First = walk-lts.Else-first-ge-REFUSED (walk_claims t) (walk_at t) walk.Post
 
   abbrev HasSecond : Type 0
-  HasSecond = walk-lts.Else4 (walk_claims t) (walk_at t) walk.Post
+  HasSecond = walk-lts.Else-next-eq0 (walk_claims t) (walk_at t) walk.Post
 
   abbrev Entered : Type 0
-  Entered = walk-lts.After-third-child (walk_claims t) (walk_at t) walk.Post
+  Entered = walk-lts.After-third_child-e (walk_claims t) (walk_at t) walk.Post
 
   abbrev Second : Type 0
-  Second = walk-lts.Else5 (walk_claims t) (walk_at t) walk.Post
+  Second = walk-lts.Else-second-ge-REFUSED (walk_claims t) (walk_at t) walk.Post
 
   abbrev own_of : HasFirst → Own
   own_of c = c.before.before.before.before.before.before
@@ -78,51 +78,51 @@ module _ (t : ℕ) where
   -- How far the walk has come there.
   abbrev Come : Own → List ℕ → ℕ → (List Record → ℕ → ℕ) → (Table → List Record → Env → ℕ → ℕ → Option Refusal) → Type 0
   Come c bs q child rest =
-      let a = c.before.before.before.before.before.before.args in
+      let a = c.args in
       let types = entries_in a.table.now in
       let rs = records_in a.records.now in
       WalkedSoFar t types rs a.binders.now bs a.depth a.level a.n a.left q (child rs a.n) (rest types rs (stack a.binders.now a.depth) a.level a.n)
 
 first_passed : (t : ℕ) (c : First t) →
-    let w = c.before.before.before.walk in
+    let w = c.walk-first in
     Come t (own_of t (child_of t c)) w.new.1.1.0 w.result second_of from_second
 first_passed t c = search (passes_first, rules)
 
 second_passed : (t : ℕ) (c : Second t) →
-    let w = c.before.before.before.walk2 in
+    let w = c.walk-second in
     Come t (own_of t (child_of t (first_of t (second_of_lem t (entered_of t c))))) w.new.1.1.0 w.result third_of from_third
 second_passed t c = search (passes_second, rules, first_passed t (first_of t (second_of_lem t (entered_of t c))))
 
-pub +walk-spec : {M : Type 1} → statement M
-+walk-spec = close μ_walk
+pub +walk_spec : {M : Type 1} → statement M
++walk_spec = close μ_walk
     (λ t. walk-lts.spec (walk_claims t) (walk_at t) walk.Post
-    (λ c κs. search (walking, rules))  -- own-refusal-requires
+    (λ c κs. search (walking, rules))  -- own_refusal-own-requires
     (λ c κs. search (walking, rules))  -- packed-requires
-    (λ c. search (walking, rules))  -- same-length
-    (λ c. search (walking, rules))  -- returns
-    (λ c. search (walking, rules))  -- sub-rest
-    (λ c κs. search (walking, rules))  -- first-child-requires
-    (λ c. search (walking, rules))  -- cast-result
-    (λ c. search (walking, rules))  -- same-length-2
-    (λ c. search (walking, rules))  -- returns-2
-    (λ c κs. search (walking, rules))  -- next-of-requires
-    (λ c κs. (search (walking, rules), search (walking, rules)))  -- walk-requires
-    (λ c. search (walking, rules))  -- same-length-3
-    (λ c. search (walking, rules))  -- returns-3
-    (λ c. search (walking, rules))  -- same-length-4
-    (λ c. search (walking, rules, first_passed t c.before))  -- returns-4
-    (λ c κs. search (walking, rules, first_passed t (first_of t c.before)))  -- second-child-requires
-    (λ c κs. search (walking, rules, first_passed t (first_of t c.before.before.before.before)))  -- third-child-requires
-    (λ c. search (walking, rules))  -- cast-walk
+    (λ c. search (walking, rules))  -- shape_of-binders-then-own-ne0
+    (λ c. search (walking, rules))  -- returns-then-own-ne0
+    (λ c. search (walking, rules))  -- overflow_sub-rest
+    (λ c κs. search (walking, rules))  -- first_child-c-requires
+    (λ c. search (walking, rules))  -- overflow_cast-result
+    (λ c. search (walking, rules))  -- shape_of-binders-then-c-eq0
+    (λ c. search (walking, rules))  -- returns-then-c-eq0
+    (λ c κs. search (walking, rules))  -- next_of-next-requires
+    (λ c κs. (search (walking, rules), search (walking, rules)))  -- walk-first-requires
+    (λ c. search (walking, rules))  -- shape_of-binders-then-first-ge-REFUSED
+    (λ c. search (walking, rules))  -- returns-then-first-ge-REFUSED
+    (λ c. search (walking, rules))  -- shape_of-binders-then-next-eq0
+    (λ c. search (walking, rules, first_passed t c.before))  -- returns-then-next-eq0
+    (λ c κs. search (walking, rules, first_passed t (first_of t c.before)))  -- second_child-s-requires
+    (λ c κs. search (walking, rules, first_passed t (first_of t c.before.before.before.before)))  -- third_child-e-requires
+    (λ c. search (walking, rules))  -- overflow_cast-first
     (λ c κs.
     let far = first_passed t (first_of t (second_of_lem t c.before)) in
-    (search (passed_falls, rules, far), search (goes_second, rules, far)))  -- walk-requires-2
-    (λ c. search (walking, rules))  -- same-length-5
-    (λ c. search (walking, rules, first_passed t (first_of t (second_of_lem t c.before.before.before.before.before))))  -- returns-5
-    (λ c. search (walking, rules))  -- same-length-6
-    (λ c. search (walking, rules, second_passed t c.before))  -- returns-6
-    (λ c. search (walking, rules))  -- cast-walk-2
-    (λ c κs. search (walking, rules, second_passed t c.before.before))  -- walk-requires-3
-    (λ c. search (walking, rules, second_passed t c.before.before.before.before.before))  -- same-length-7
-    (λ c. search (walking, rules, second_passed t c.before.before.before.before.before))  -- returns-7
+    (search (passed_falls, rules, far), search (goes_second, rules, far)))  -- walk-second-requires
+    (λ c. search (walking, rules))  -- shape_of-binders-then-second-ge-REFUSED
+    (λ c. search (walking, rules, first_passed t (first_of t (second_of_lem t c.before.before.before.before.before))))  -- returns-then-second-ge-REFUSED
+    (λ c. search (walking, rules))  -- shape_of-binders-then-e-eq0
+    (λ c. search (walking, rules, second_passed t c.before))  -- returns-then-e-eq0
+    (λ c. search (walking, rules))  -- overflow_cast-second
+    (λ c κs. search (walking, rules, second_passed t c.before.before))  -- walk-requires
+    (λ c. search (walking, rules, second_passed t c.before.before.before.before.before))  -- shape_of-binders
+    (λ c. search (walking, rules, second_passed t c.before.before.before.before.before))  -- returns
     )

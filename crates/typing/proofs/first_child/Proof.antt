@@ -8,8 +8,8 @@ pub first_child_spec : {M : Type 1} → statement M
 first_child_spec =
     tie.close (tie.spec
     (λ c κs. search (entering, rules))  -- read-requires
-    (λ c κs. search (entering, rules))  -- first-level-requires
-    (λ c κs. search (entering, rules))  -- push-first-requires
-    (λ c. search (entering, rules))  -- same-length
+    (λ c κs. search (entering, rules))  -- first_level-requires
+    (λ c κs. search (entering, rules))  -- push_first-requires
+    (λ c. search (entering, rules))  -- shape_of-binders
     (λ c. search (entering, rules))  -- returns
     )

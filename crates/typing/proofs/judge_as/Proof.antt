@@ -7,11 +7,11 @@ use Rattle.typing.proofs.judge_as.Tie as tie
 pub judge_as_spec : {M : Type 1} → statement M
 judge_as_spec =
     tie.close (tie.spec
-    (λ c κs. search (own_judging, rules))  -- next-of-requires
-    (λ c κs. search (own_judging, rules))  -- next-of-requires-2
-    (λ c κs. search (own_judging, rules))  -- type-of-requires
-    (λ c κs. search (own_judging, rules))  -- type-of-requires-2
-    (λ c κs. search (own_judging, rules))  -- type-of-requires-3
+    (λ c κs. search (own_judging, rules))  -- next_of-s-requires
+    (λ c κs. search (own_judging, rules))  -- next_of-e-requires
+    (λ c κs. search (own_judging, rules))  -- type_of-x-requires
+    (λ c κs. search (own_judging, rules))  -- type_of-y-requires
+    (λ c κs. search (own_judging, rules))  -- type_of-z-requires
     (λ c κs. search (own_judging, rules))  -- judge-requires
     (λ c. search (own_judging, rules))  -- returns
     )

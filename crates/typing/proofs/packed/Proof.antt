@@ -7,7 +7,7 @@ use Rattle.typing.proofs.packed.Tie as tie
 pub packed_spec : {M : Type 1} → statement M
 packed_spec =
     tie.close (tie.spec
-    (λ c. search rules)  -- mul-result
-    (λ c. search rules)  -- add-result
+    (λ c. search rules)  -- overflow_mul-result
+    (λ c. search rules)  -- overflow_add-result
     (λ c. search (walking, rules))  -- returns
     )

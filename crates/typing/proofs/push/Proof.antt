@@ -7,11 +7,11 @@ use Rattle.typing.proofs.push.Tie as tie
 pub push_spec : {M : Type 1} → statement M
 push_spec =
     tie.close (tie.spec
-    (λ c. search (pushing, rules))  -- mul-binders
-    (λ c. search (pushing, rules))  -- add-binders
-    (λ c. search (pushing, rules))  -- mul-binders-2
-    (λ c. search (pushing, rules))  -- slice-write-binders
-    (λ c. search (pushing, rules))  -- add-result
-    (λ c. search (pushing, rules))  -- same-length
+    (λ c. search (pushing, rules))  -- overflow_mul-binders
+    (λ c. search (pushing, rules))  -- overflow_add-binders
+    (λ c. search (pushing, rules))  -- offset_bounds-binders-depth
+    (λ c. search (pushing, rules))  -- bounds-binders-depth
+    (λ c. search (pushing, rules))  -- overflow_add-result
+    (λ c. search (pushing, rules))  -- shape_of-binders
     (λ c. search (pushing, rules))  -- returns
     )

@@ -8,8 +8,8 @@ pub second_child_spec : {M : Type 1} → statement M
 second_child_spec =
     tie.close (tie.spec
     (λ c κs. search (entering, rules))  -- read-requires
-    (λ c κs. search (entering, rules))  -- next-of-requires
-    (λ c κs. search (entering, rules))  -- push-second-requires
-    (λ c. search (entering, rules))  -- same-length
+    (λ c κs. search (entering, rules))  -- next_of-requires
+    (λ c κs. search (entering, rules))  -- push_second-requires
+    (λ c. search (entering, rules))  -- shape_of-binders
     (λ c. search (entering, rules))  -- returns
     )

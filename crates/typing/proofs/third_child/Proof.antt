@@ -8,7 +8,7 @@ pub third_child_spec : {M : Type 1} → statement M
 third_child_spec =
     tie.close (tie.spec
     (λ c κs. search (reading, rules))  -- read-requires
-    (λ c κs. search (reading, rules))  -- next-of-requires
-    (λ c κs. search (reading, rules))  -- next-of-requires-2
+    (λ c κs. search (reading, rules))  -- next_of-s-requires
+    (λ c κs. search (reading, rules))  -- next_of-requires
     (λ c. search (reading, rules))  -- returns
     )

@@ -7,7 +7,7 @@ use Rattle.typing.proofs.type_of.Tie as tie
 pub type_of_spec : {M : Type 1} → statement M
 type_of_spec =
     tie.close (tie.spec
-    (λ c. search (reading, rules))  -- returns
+    (λ c. search (reading, rules))  -- returns-then-n-eq0
     (λ c κs. search (reading, rules))  -- read-requires
-    (λ c. search (reading, rules))  -- returns-2
+    (λ c. search (reading, rules))  -- returns
     )

@@ -7,8 +7,8 @@ use Rattle.typing.proofs.verdict_in.Tie as tie
 pub verdict_in_spec : {M : Type 1} → statement M
 verdict_in_spec =
     tie.close (tie.spec
+    (λ c. search (walking, rules))  -- returns-then-q-lt-REFUSED
+    (λ c. search (walking, rules))  -- overflow_cast-result
+    (λ c. search (walking, rules))  -- overflow_cast-result-2
     (λ c. search (walking, rules))  -- returns
-    (λ c. search (walking, rules))  -- cast-t4
-    (λ c. search (walking, rules))  -- cast-t6
-    (λ c. search (walking, rules))  -- returns-2
     )

@@ -63,27 +63,27 @@ copy_raised_μ_loop w₀ src dst n d all done₀ w done = all - done
 -- What is known where the root of a tree is read, where it is copied, and where the code of a match is.
 tree_read : (t : ℕ) (c : copy-raised-lts.After-get-r (copy_raised_claims t) (copy_raised_at t) copy-raised.Post copy_raised-Inv-loop copy_raised_μ_loop) → let a = c.args in let l = c.loop-done in
     TreeRead a.w.now l.w a.src a.dst a.n a.d c.tree_size-all.result l.done (record_meant c.get-r.result)
-tree_read t c = record { short = c.before.before.before.before.before.before.before.well-formed.0.0; whole = c.tree_size-all.ensures; row = c.loop-done.invariant.1; going = c.loop-done-test.true; read = c.get-r.ensures }
+tree_read t c = record { short = search rules; whole = c.tree_size-all.ensures; row = c.loop-done.invariant.1; going = c.loop-done-test.true; read = c.get-r.ensures }
 
 root_copied : (t : ℕ) (c : copy-raised-lts.After-raise_root (copy_raised_claims t) (copy_raised_at t) copy-raised.Post copy_raised-Inv-loop copy_raised_μ_loop) → let a = c.args in let l = c.loop-done in
-    RootCopied t a.w.now l.w c.raise_root.new.0 a.src a.dst a.n a.d c.tree_size-all.result l.done (record_meant c.get-r.result)
+    RootCopied t a.w.now l.w c.raise_root.new.w a.src a.dst a.n a.d c.tree_size-all.result l.done (record_meant c.get-r.result)
 root_copied t c = record {
   measure = c.requires.0;
   tree = tree_read t c.before.before.before.before.before.before;
   free = c.if-r-d.false;
   root = c.raise_root.ensures;
-  same = c.raise_root.auto.0 ∙ c.loop-done.invariant.0;
+  same = c.raise_root.auto.w ∙ c.loop-done.invariant.0;
 }
 
-code_copied : (t : ℕ) (c : copy-raised-lts.After-copy_raised-in-11-to-14 (copy_raised_claims t) (copy_raised_at t) copy-raised.Post copy_raised-Inv-loop copy_raised_μ_loop) → let o = c.before.before.before.before.before.before.before.before.before in let a = o.args in let l = o.loop-done in
-    CodeCopied t a.w.now l.w o.raise_root.new.0 c.copy_raised-in-11-to-14.new.0 a.src a.dst a.n a.d o.tree_size-all.result l.done (record_meant o.get-r.result) c.tree_size-code.result
+code_copied : (t : ℕ) (c : copy-raised-lts.After-copy_raised-in-11-to-14 (copy_raised_claims t) (copy_raised_at t) copy-raised.Post copy_raised-Inv-loop copy_raised_μ_loop) → let o = c in let a = o.args in let l = o.loop-done in
+    CodeCopied t a.w.now l.w o.raise_root.new.w c.copy_raised-in-11-to-14.new.w a.src a.dst a.n a.d o.tree_size-all.result l.done (record_meant o.get-r.result) c.tree_size-code.result
 code_copied t c = record {
-  match = root_copied t c.before.before.before.before.before.before.before.before.before;
+  match = root_copied t c.before.before.before.before.before.before;
   least = omega arith;
   most = omega arith;
   size = c.tree_size-code.ensures;
   copy = c.copy_raised-in-11-to-14.ensures;
-  same = c.copy_raised-in-11-to-14.auto.0 ∙ (root_copied t c.before.before.before.before.before.before.before.before.before).same;
+  same = c.copy_raised-in-11-to-14.auto.w ∙ (root_copied t c.before.before.before.before.before.before).same;
 }
 
 pub +copy_raised_spec : {M : Type 1} → statement M
@@ -102,43 +102,43 @@ pub +copy_raised_spec : {M : Type 1} → statement M
     (λ c. read_index_fits _ _ _ _ _ _ _ _ _ (tree_read t c.before.before.before.before.before.before) c.if-size-eq1.true (omega arith))  -- overflow_add-r-then-size-eq1
     (λ c κs. read_room _ _ _ _ _ _ _ _ _ (tree_read t c.before.before.before.before.before.before))  -- put_indexed-requires
     (λ c. omega arith)  -- overflow_add-done
-    (λ c. omega arith)  -- loop-done-smaller
-    (λ c. (search rules, read_copied _ _ _ _ _ _ _ _ _ (tree_read t c.before.before.before.before.before.before.before.before.before) _ (leaf_does _ _ _ _ _ _ c.get-r.ensures c.if-size-eq1.true _ _ _ c.put_indexed.ensures refl refl) _ (omega arith)))  -- loop-done-preserved
+    (λ c. omega arith)  -- loop-done-smaller-then-size-eq1
+    (λ c. (search rules, read_copied _ _ _ _ _ _ _ _ _ (tree_read t c.before.before.before.before.before.before.before.before.before) _ (leaf_does _ _ _ _ _ _ c.get-r.ensures c.if-size-eq1.true _ _ _ c.put_indexed.ensures refl refl) _ (omega arith)))  -- loop-done-preserved-then-size-eq1
     (λ c κs. read_moves _ _ _ _ _ _ _ _ _ (tree_read t c.before.before.before.before.before))  -- copy_flat-requires
     (λ c. read_size_fits _ _ _ _ _ _ _ _ _ (tree_read t c.before.before.before.before.before.before.before.before))  -- overflow_add-done-then-r-d
-    (λ c. read_less _ _ _ _ _ _ _ _ _ (tree_read t c.before.before.before.before.before.before.before.before))  -- loop-less-2
-    (λ c. (search rules, read_copied _ _ _ _ _ _ _ _ _ (tree_read t c.before.before.before.before.before.before.before.before) _ (flat_does _ _ _ _ _ _ c.get-r.ensures _ (omega arith) _ refl c.copy_flat.ensures) _ refl))  -- loop-again-2
+    (λ c. read_less _ _ _ _ _ _ _ _ _ (tree_read t c.before.before.before.before.before.before.before.before))  -- loop-done-smaller-then-r-d
+    (λ c. (search rules, read_copied _ _ _ _ _ _ _ _ _ (tree_read t c.before.before.before.before.before.before.before.before) _ (flat_does _ _ _ _ _ _ c.get-r.ensures _ (omega arith) _ refl c.copy_flat.ensures) _ refl))  -- loop-done-preserved-then-r-d
     (λ c κs. read_root_can _ _ _ _ _ _ _ _ _ (tree_read t c.before.before.before.before.before) (omega arith))  -- raise_root-requires
     (λ c. omega arith)  -- overflow_add-done-else-r-d
-    (λ c. next_from_fits _ _ _ _ _ _ _ _ _ _ _ (root_copied t c.before.before.before.before))  -- overflow_add-src
-    (λ c κs. function_tree _ _ _ _ _ _ _ _ _ _ _ (root_copied t c.before.before.before.before) (omega arith))  -- tree_size-body-requires
-    (λ c. next_from_fits _ _ _ _ _ _ _ _ _ _ _ (root_copied t c.before.before.before.before.before.before))  -- overflow_add-src-in-3
-    (λ c. next_to_fits _ _ _ _ _ _ _ _ _ _ _ (root_copied t c.before.before.before.before.before.before))  -- overflow_add-dst
+    (λ c. next_from_fits _ _ _ _ _ _ _ _ _ _ _ (root_copied t c.before.before.before))  -- overflow_add-src
+    (λ c κs. function_tree _ _ _ _ _ _ _ _ _ _ _ (root_copied t c.before.before.before) (omega arith))  -- tree_size-body-requires
+    (λ c. next_from_fits _ _ _ _ _ _ _ _ _ _ _ (root_copied t c.before.before.before.before.before))  -- overflow_add-src-in-3
+    (λ c. next_to_fits _ _ _ _ _ _ _ _ _ _ _ (root_copied t c.before.before.before.before.before))  -- overflow_add-dst
     (λ c. search function_deep)  -- overflow_add-d
-    (λ c κs. (function_falls _ _ _ _ _ _ _ _ _ _ _ (root_copied t c.before.before.before.before.before.before) (omega arith), function_can _ _ _ _ _ _ _ _ _ _ _ (root_copied t c.before.before.before.before.before.before) (omega arith)))  -- copy_raised-requires
-    (λ c. function_fits _ _ _ _ _ _ _ _ _ _ _ (root_copied t c.before.before.before.before.before.before.before.before.before) (omega arith) _ c.tree_size-body.ensures)  -- overflow_add-done-in-3
-    (λ c. omega arith)  -- loop-less-3
-    (λ c. (search rules, function_copied _ _ _ _ _ _ _ _ _ _ _ (root_copied t c.before.before.before.before.before.before.before.before.before) (omega arith) _ c.tree_size-body.ensures _ c.copy_raised.ensures))  -- loop-again-3
-    (λ c. omega arith)  -- loop-less-4
-    (λ c. (search rules, flat_opened _ _ _ _ _ _ _ _ _ _ _ (root_copied t c.before.before.before.before) (λ e. omega arith) (inl (omega arith))))  -- loop-again-4
-    (λ c. next_from_fits _ _ _ _ _ _ _ _ _ _ _ (root_copied t c.before.before.before.before.before.before))  -- overflow_add-src-in-11-to-14
-    (λ c κs. code_tree _ _ _ _ _ _ _ _ _ _ _ (root_copied t c.before.before.before.before.before.before) (omega arith) (omega arith))  -- tree_size-code-requires
-    (λ c. next_from_fits _ _ _ _ _ _ _ _ _ _ _ (root_copied t c.before.before.before.before.before.before.before.before))  -- overflow_add-src-in-11-to-14-2
-    (λ c. next_to_fits _ _ _ _ _ _ _ _ _ _ _ (root_copied t c.before.before.before.before.before.before.before.before))  -- overflow_add-dst-in-11-to-14
-    (λ c κs. (code_falls _ _ _ _ _ _ _ _ _ _ _ (root_copied t c.before.before.before.before.before.before.before.before) (omega arith) (omega arith), code_can _ _ _ _ _ _ _ _ _ _ _ (root_copied t c.before.before.before.before.before.before.before.before) (omega arith) (omega arith)))  -- copy_raised-requires-in-11-to-14
+    (λ c κs. (function_falls _ _ _ _ _ _ _ _ _ _ _ (root_copied t c.before.before.before.before.before) (omega arith), function_can _ _ _ _ _ _ _ _ _ _ _ (root_copied t c.before.before.before.before.before) (omega arith)))  -- copy_raised-requires
+    (λ c. function_fits _ _ _ _ _ _ _ _ _ _ _ (root_copied t c.before.before.before.before.before.before.before.before) (omega arith) _ c.tree_size-body.ensures)  -- overflow_add-done-in-3
+    (λ c. omega arith)  -- loop-done-smaller-in-3
+    (λ c. (search rules, function_copied _ _ _ _ _ _ _ _ _ _ _ (root_copied t c.before.before.before.before.before.before.before.before) (omega arith) _ c.tree_size-body.ensures _ c.copy_raised.ensures))  -- loop-done-preserved-in-3
+    (λ c. omega arith)  -- loop-done-smaller-then-kind-lt11
+    (λ c. (search rules, flat_opened _ _ _ _ _ _ _ _ _ _ _ (root_copied t c.before.before.before.before) (λ e. omega arith) (inl (omega arith))))  -- loop-done-preserved-then-kind-lt11
+    (λ c. next_from_fits _ _ _ _ _ _ _ _ _ _ _ (root_copied t c.before.before.before))  -- overflow_add-src-in-11-to-14
+    (λ c κs. code_tree _ _ _ _ _ _ _ _ _ _ _ (root_copied t c.before.before.before) (omega arith) (omega arith))  -- tree_size-code-requires
+    (λ c. next_from_fits _ _ _ _ _ _ _ _ _ _ _ (root_copied t c.before.before.before.before.before))  -- overflow_add-src-in-11-to-14-2
+    (λ c. next_to_fits _ _ _ _ _ _ _ _ _ _ _ (root_copied t c.before.before.before.before.before))  -- overflow_add-dst-in-11-to-14
+    (λ c κs. (code_falls _ _ _ _ _ _ _ _ _ _ _ (root_copied t c.before.before.before.before.before) (omega arith) (omega arith), code_can _ _ _ _ _ _ _ _ _ _ _ (root_copied t c.before.before.before.before.before) (omega arith) (omega arith)))  -- copy_raised-requires-in-11-to-14
     (λ c. code_fits _ _ _ _ _ _ _ _ _ _ _ _ _ (code_copied t c.before.before))  -- overflow_add-done-in-11-to-14
-    (λ c. success_from_fits _ _ _ _ _ _ _ _ _ _ _ _ _ (code_copied t c.before.before.before))  -- overflow_add-src-in-11-to-14-3
-    (λ c κs. success_tree _ _ _ _ _ _ _ _ _ _ _ _ _ (code_copied t c.before.before.before))  -- tree_size-success-requires
-    (λ c. success_from_fits _ _ _ _ _ _ _ _ _ _ _ _ _ (code_copied t c.before.before.before.before.before))  -- overflow_add-src-in-11-to-14-4
-    (λ c. success_to_fits _ _ _ _ _ _ _ _ _ _ _ _ _ (code_copied t c.before.before.before.before.before))  -- overflow_add-dst-in-11-to-14-2
+    (λ c. success_from_fits _ _ _ _ _ _ _ _ _ _ _ _ _ (code_copied t c.before.before))  -- overflow_add-src-in-11-to-14-3
+    (λ c κs. success_tree _ _ _ _ _ _ _ _ _ _ _ _ _ (code_copied t c.before.before))  -- tree_size-success-requires
+    (λ c. success_from_fits _ _ _ _ _ _ _ _ _ _ _ _ _ (code_copied t c.before.before.before.before))  -- overflow_add-src-in-11-to-14-4
+    (λ c. success_to_fits _ _ _ _ _ _ _ _ _ _ _ _ _ (code_copied t c.before.before.before.before))  -- overflow_add-dst-in-11-to-14-2
     (λ c κs. search rules)  -- binders_over-requires
     (λ c. search success_deep)  -- overflow_add-d-in-11-to-14
-    (λ c κs. (success_falls _ _ _ _ _ _ _ _ _ _ _ _ _ (code_copied t c.before.before.before.before.before.before) _ c.binders_over.ensures, success_can _ _ _ _ _ _ _ _ _ _ _ _ _ (code_copied t c.before.before.before.before.before.before) _ c.binders_over.ensures))  -- copy_raised-requires-in-11-to-14-2
-    (λ c. success_fits _ _ _ _ _ _ _ _ _ _ _ _ _ (code_copied t c.before.before.before.before.before.before.before.before.before) _ c.binders_over.ensures _ c.tree_size-success.ensures)  -- overflow_add-done-in-11-to-14-2
-    (λ c. omega arith)  -- loop-less-5
-    (λ c. (c.copy_raised-in-11-to-14-2.auto.0 ∙ (code_copied t c.before.before.before.before.before.before.before.before.before).same, success_copied _ _ _ _ _ _ _ _ _ _ _ _ _ (code_copied t c.before.before.before.before.before.before.before.before.before) _ c.binders_over.ensures _ c.tree_size-success.ensures _ c.copy_raised-in-11-to-14-2.ensures))  -- loop-again-5
-    (λ c. omega arith)  -- loop-less-6
-    (λ c. (search rules, flat_opened _ _ _ _ _ _ _ _ _ _ _ (root_copied t c.before.before.before.before.before) (λ e. omega arith) (inr (omega arith))))  -- loop-again-6
+    (λ c κs. (success_falls _ _ _ _ _ _ _ _ _ _ _ _ _ (code_copied t c.before.before.before.before.before) _ c.binders_over.ensures, success_can _ _ _ _ _ _ _ _ _ _ _ _ _ (code_copied t c.before.before.before.before.before) _ c.binders_over.ensures))  -- copy_raised-requires-in-11-to-14-2
+    (λ c. success_fits _ _ _ _ _ _ _ _ _ _ _ _ _ (code_copied t c.before.before.before.before.before.before.before.before) _ c.binders_over.ensures _ c.tree_size-success.ensures)  -- overflow_add-done-in-11-to-14-2
+    (λ c. omega arith)  -- loop-done-smaller-then-kind-lt15
+    (λ c. (c.copy_raised-in-11-to-14-2.auto.0 ∙ (code_copied t c.before.before.before.before.before.before.before.before).same, success_copied _ _ _ _ _ _ _ _ _ _ _ _ _ (code_copied t c.before.before.before.before.before.before.before.before) _ c.binders_over.ensures _ c.tree_size-success.ensures _ c.copy_raised-in-11-to-14-2.ensures))  -- loop-done-preserved-then-kind-lt15
+    (λ c. omega arith)  -- loop-done-smaller
+    (λ c. (search rules, flat_opened _ _ _ _ _ _ _ _ _ _ _ (root_copied t c.before.before.before.before.before) (λ e. omega arith) (inr (omega arith))))  -- loop-done-preserved
     (λ c. search rules)  -- shape_of-w
     (λ c. search raise_ends)  -- returns
     )
