@@ -45,32 +45,32 @@ size_after_claims t = (
   size-after.Post,
 )
 
-abbrev size_after-Inv-loop : size-after-lts.invariant-loop
+abbrev size_after-Inv-loop : size-after-lts.invariant-loop-j
 size_after-Inv-loop w src d m first second kind children n₀ at₀ j₀ n at j =
     Walking m first second (records_in w) src d kind children n at j
 
-abbrev size_after_μ_loop : size-after-lts.decreases-loop
+abbrev size_after_μ_loop : size-after-lts.decreases-loop-j
 size_after_μ_loop w src d m first second kind children n₀ at₀ j₀ n at j = children - j
 
-pub +size-after-spec : {M : Type 1} → statement M
-+size-after-spec = close μ_size_after
+pub +size_after_spec : {M : Type 1} → statement M
++size_after_spec = close μ_size_after
     (λ t. size-after-lts.spec (size_after_claims t) (size_after_at t) size-after.Post size_after-Inv-loop size_after_μ_loop
-    (λ c κs. search (counting, rules))  -- get-requires
-    (λ c. search (counting, rules))  -- cast-result
+    (λ c κs. search (counting, rules))  -- get-r-requires
+    (λ c. search (counting, rules))  -- overflow_cast-result
+    (λ c. search (counting, rules))  -- returns-then-r-d
+    (λ c κs. search (counting, rules))  -- children-children-requires
+    (λ c κs. search (counting, rules))  -- gives_way-requires
+    (λ c κs. search (counting, rules))  -- chosen_size-requires
+    (λ c. search (counting, rules))  -- returns-then-gives_way
+    (λ c. search (counting, rules))  -- overflow_add-at
+    (λ c. search (counting, rules))  -- loop-j-init
+    (λ c κs. search (counting, rules))  -- skip-after-requires
+    (λ c κs. search (counting, rules))  -- binders_over-requires
+    (λ c. search (counting, rules))  -- overflow_add-d
+    (λ c κs. search (counting, rules))  -- size_after-n-requires
+    (λ c. search (counting, rules))  -- overflow_add-n
+    (λ c. search (counting, rules))  -- overflow_add-j
+    (λ c. search (counting, rules))  -- loop-j-smaller
+    (λ c. search (counting, rules))  -- loop-j-preserved
     (λ c. search (counting, rules))  -- returns
-    (λ c κs. search (counting, rules))  -- children-requires
-    (λ c κs. search (counting, rules))  -- gives-way-requires
-    (λ c κs. search (counting, rules))  -- chosen-size-requires
-    (λ c. search (counting, rules))  -- returns-2
-    (λ c. search (counting, rules))  -- add-at
-    (λ c. search (counting, rules))  -- loop-holds
-    (λ c κs. search (counting, rules))  -- skip-requires
-    (λ c κs. search (counting, rules))  -- binders-over-requires
-    (λ c. search (counting, rules))  -- add-size-after
-    (λ c κs. search (counting, rules))  -- size-after-requires
-    (λ c. search (counting, rules))  -- add-n
-    (λ c. search (counting, rules))  -- add-j
-    (λ c. search (counting, rules))  -- loop-less
-    (λ c. search (counting, rules))  -- loop-again
-    (λ c. search (counting, rules))  -- returns-3
     )

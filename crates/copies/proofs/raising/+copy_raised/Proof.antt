@@ -136,7 +136,7 @@ pub +copy_raised_spec : {M : Type 1} → statement M
     (λ c κs. (success_falls _ _ _ _ _ _ _ _ _ _ _ _ _ (code_copied t c.before.before.before.before.before) _ c.binders_over.ensures, success_can _ _ _ _ _ _ _ _ _ _ _ _ _ (code_copied t c.before.before.before.before.before) _ c.binders_over.ensures))  -- copy_raised-requires-in-11-to-14-2
     (λ c. success_fits _ _ _ _ _ _ _ _ _ _ _ _ _ (code_copied t c.before.before.before.before.before.before.before.before) _ c.binders_over.ensures _ c.tree_size-success.ensures)  -- overflow_add-done-in-11-to-14-2
     (λ c. omega arith)  -- loop-done-smaller-then-kind-lt15
-    (λ c. (c.copy_raised-in-11-to-14-2.auto.0 ∙ (code_copied t c.before.before.before.before.before.before.before.before).same, success_copied _ _ _ _ _ _ _ _ _ _ _ _ _ (code_copied t c.before.before.before.before.before.before.before.before) _ c.binders_over.ensures _ c.tree_size-success.ensures _ c.copy_raised-in-11-to-14-2.ensures))  -- loop-done-preserved-then-kind-lt15
+    (λ c. (c.copy_raised-in-11-to-14-2.auto.w ∙ (code_copied t c.before.before.before.before.before.before.before.before).same, success_copied _ _ _ _ _ _ _ _ _ _ _ _ _ (code_copied t c.before.before.before.before.before.before.before.before) _ c.binders_over.ensures _ c.tree_size-success.ensures _ c.copy_raised-in-11-to-14-2.ensures))  -- loop-done-preserved-then-kind-lt15
     (λ c. omega arith)  -- loop-done-smaller
     (λ c. (search rules, flat_opened _ _ _ _ _ _ _ _ _ _ _ (root_copied t c.before.before.before.before.before) (λ e. omega arith) (inr (omega arith))))  -- loop-done-preserved
     (λ c. search rules)  -- shape_of-w

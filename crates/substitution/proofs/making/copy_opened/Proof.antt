@@ -7,11 +7,11 @@ use Rattle.substitution.proofs.making.copy_opened.Tie as tie
 pub copy_opened_spec : {M : Type 1} → statement M
 copy_opened_spec =
     tie.close (tie.spec
-    (λ c. search (making, rules))  -- add-inner
-    (λ c. search (making, rules))  -- add-copy-wrapped
-    (λ c κs. search (making, rules))  -- copy-wrapped-requires
-    (λ c κs. search (making, rules))  -- put-over-requires
-    (λ c κs. search (making, rules))  -- put-over-requires-2
-    (λ c. search (making, rules))  -- same-length
+    (λ c. search (making, rules))  -- overflow_add-inner
+    (λ c. search (making, rules))  -- overflow_add-inner-2
+    (λ c κs. search (making, rules))  -- copy_wrapped-requires
+    (λ c κs. search (making, rules))  -- put_over-requires
+    (λ c κs. search (making, rules))  -- put_over-requires-2
+    (λ c. search (making, rules))  -- shape_of-w
     (λ c. search (making, rules))  -- returns
     )

@@ -7,9 +7,9 @@ use Rattle.substitution.proofs.making.copy_quoted.Tie as tie
 pub copy_quoted_spec : {M : Type 1} → statement M
 copy_quoted_spec =
     tie.close (tie.spec
-    (λ c. search (making, rules))  -- add-copy-tree
-    (λ c κs. search (making, rules))  -- copy-tree-requires
-    (λ c κs. search (making, rules))  -- put-over-requires
-    (λ c. search (making, rules))  -- same-length
+    (λ c. search (making, rules))  -- overflow_add-dst
+    (λ c κs. search (making, rules))  -- copy_tree-requires
+    (λ c κs. search (making, rules))  -- put_over-requires
+    (λ c. search (making, rules))  -- shape_of-w
     (λ c. search (making, rules))  -- returns
     )

@@ -8,7 +8,7 @@ pub put_over_spec : {M : Type 1} → statement M
 put_over_spec =
     tie.close (tie.spec
     (λ c κs. search (making, rules))  -- put-requires
-    (λ c κs. search (making, rules))  -- mark-root-requires
-    (λ c. search (making, rules))  -- same-length
+    (λ c κs. search (making, rules))  -- mark_root-requires
+    (λ c. search (making, rules))  -- shape_of-w
     (λ c. search (making, rules))  -- returns
     )

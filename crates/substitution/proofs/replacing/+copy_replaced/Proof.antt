@@ -58,40 +58,40 @@ copy_replaced_claims t = (
   mark-root-reads.Learnt,
 )
 
-abbrev copy_replaced-Inv-loop : copy-replaced-lts.invariant-loop
+abbrev copy_replaced-Inv-loop : copy-replaced-lts.invariant-loop-j
 copy_replaced-Inv-loop w₀ src dst d g kind children at₀ to₀ replaced₀ j₀ w at to replaced j =
     (length w ≡ length w₀) × ReplacingChildren g (records_in w₀) src dst d kind children (records_in w) at to replaced j
 
-abbrev copy_replaced_μ_loop : copy-replaced-lts.decreases-loop
+abbrev copy_replaced_μ_loop : copy-replaced-lts.decreases-loop-j
 copy_replaced_μ_loop w₀ src dst d g kind children at₀ to₀ replaced₀ j₀ w at to replaced j = children - j
 
-pub +copy-replaced-spec : {M : Type 1} → statement M
-+copy-replaced-spec = close μ_copy_replaced
+pub +copy_replaced_spec : {M : Type 1} → statement M
++copy_replaced_spec = close μ_copy_replaced
     (λ t. copy-replaced-lts.spec (copy_replaced_claims t) (copy_replaced_at t) copy-replaced.Post copy_replaced-Inv-loop copy_replaced_μ_loop
-    (λ c κs. search (replacing_laws, rules))  -- get-requires
-    (λ c. search (replacing_laws, rules))  -- cast-copy-block
-    (λ c κs. search (replacing_laws, rules))  -- copy-block-requires
-    (λ c. search (replacing_laws, rules))  -- same-length
-    (λ c. search (replacing_laws, rules))  -- returns
-    (λ c κs. search (replacing_laws, rules))  -- children-requires
-    (λ c κs. search (replacing_laws, rules))  -- gives-way-requires
+    (λ c κs. search (replacing_laws, rules))  -- get-r-requires
+    (λ c. search (replacing_laws, rules))  -- overflow_cast-r
+    (λ c κs. search (replacing_laws, rules))  -- copy_block-end-requires
+    (λ c. search (replacing_laws, rules))  -- shape_of-w-then-r-d
+    (λ c. search (replacing_laws, rules))  -- returns-then-r-d
+    (λ c κs. search (replacing_laws, rules))  -- children-children-requires
+    (λ c κs. search (replacing_laws, rules))  -- gives_way-requires
     (λ c κs. search (replacing_laws, rules))  -- chosen-requires
-    (λ c κs. search (replacing_laws, rules))  -- copy-argument-requires
-    (λ c. search (replacing_laws, rules))  -- same-length-2
-    (λ c. search (replacing_laws, rules))  -- returns-2
-    (λ c κs. search (replacing_laws, rules))  -- lower-root-requires
-    (λ c. search (replacing_laws, rules))  -- add-at
-    (λ c. search (replacing_laws, rules))  -- add-to
-    (λ c. (search rules, search (replacing_laws, rules)))  -- loop-holds
-    (λ c κs. search (replacing_laws, rules))  -- skip-requires
-    (λ c κs. search (replacing_laws, rules))  -- binders-over-requires
-    (λ c. search (replacing_laws, rules))  -- add-copy-replaced
-    (λ c κs. search (replacing_laws, rules))  -- copy-replaced-requires
-    (λ c. search (replacing_laws, rules))  -- add-replaced
-    (λ c. search (replacing_laws, rules))  -- add-j
-    (λ c. search (replacing_laws, rules))  -- loop-less
-    (λ c. search (replacing_laws, rules))  -- loop-again
-    (λ c κs. search (replacing_laws, rules))  -- mark-root-requires
-    (λ c. search (replacing_laws, rules))  -- same-length-3
-    (λ c. search (replacing_laws, rules))  -- returns-3
+    (λ c κs. search (replacing_laws, rules))  -- copy_argument-end-requires
+    (λ c. search (replacing_laws, rules))  -- shape_of-w-then-gives_way
+    (λ c. search (replacing_laws, rules))  -- returns-then-gives_way
+    (λ c κs. search (replacing_laws, rules))  -- lower_root-requires
+    (λ c. search (replacing_laws, rules))  -- overflow_add-at
+    (λ c. search (replacing_laws, rules))  -- overflow_add-to
+    (λ c. (search rules, search (replacing_laws, rules)))  -- loop-j-init
+    (λ c κs. search (replacing_laws, rules))  -- skip-after-requires
+    (λ c κs. search (replacing_laws, rules))  -- binders_over-requires
+    (λ c. search (replacing_laws, rules))  -- overflow_add-d
+    (λ c κs. search (replacing_laws, rules))  -- copy_replaced-child-requires
+    (λ c. search (replacing_laws, rules))  -- overflow_add-replaced
+    (λ c. search (replacing_laws, rules))  -- overflow_add-j
+    (λ c. search (replacing_laws, rules))  -- loop-j-smaller
+    (λ c. search (replacing_laws, rules))  -- loop-j-preserved
+    (λ c κs. search (replacing_laws, rules))  -- mark_root-end-requires
+    (λ c. search (replacing_laws, rules))  -- shape_of-w
+    (λ c. search (replacing_laws, rules))  -- returns
     )

@@ -8,8 +8,8 @@ use Rattle.substitution.proofs.replacing.lowered_field.Tie as tie
 pub lowered_field_spec : {M : Type 1} → statement M
 lowered_field_spec =
     tie.close (tie.spec
-    (λ c κs. search rules)  -- use-of-a-requires
-    (λ c κs. search rules)  -- lowered-index-requires
-    (λ c. c.lowered-index.ensures ∙ sym (moved_index _ _ _ _ c.before.before.use-of-a.ensures c.before.if1.true))  -- returns
-    (λ c. sym (moved_other _ _ _ _ c.before.use-of-a.ensures c.if1.false))  -- returns-2
+    (λ c κs. search rules)  -- use_of_a-requires
+    (λ c κs. search rules)  -- lowered_index-requires
+    (λ c. c.lowered_index.ensures ∙ sym (moved_index _ _ _ _ c.use_of_a.ensures c.if-use_of_a-eq1.true))  -- returns-then-use_of_a-eq1
+    (λ c. sym (moved_other _ _ _ _ c.use_of_a.ensures c.if-use_of_a-eq1.false))  -- returns-else-use_of_a-eq1
     )

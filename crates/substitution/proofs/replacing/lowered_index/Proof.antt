@@ -8,6 +8,6 @@ pub lowered_index_spec : {M : Type 1} → statement M
 lowered_index_spec =
     tie.close (tie.spec
     (λ c κs. search (replacing_laws, rules))  -- without-requires
-    (λ c. search (replacing_laws, rules))  -- returns
-    (λ c. search (replacing_laws, rules))  -- returns-2
+    (λ c. search (replacing_laws, rules))  -- returns-then-i-d
+    (λ c. search (replacing_laws, rules))  -- returns-else-i-d
     )
