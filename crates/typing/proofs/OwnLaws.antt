@@ -14,7 +14,7 @@ use Rattle.records.specs.declared.Record.{Record as Read}
 use Rattle.records.specs.Meant.{record_meant}
 use Rattle.records.specs.Places.{IsRecord, InChain, Follows}
 use Rattle.judging.specs.Tests.{Judges}
-use Rattle.typing.specs.Reading.{CanRead, IsType, second_of, third_of}
+use Rattle.typing.specs.Reading.{IsType, second_of, third_of}
 use Rattle.typing.specs.Entering.{CanEnter}
 use Rattle.typing.specs.Walking.{judged_at, CanReadChildren, JudgesRead, JudgesOwn}
 use Rattle.typing.proofs.RecordLaws.{first_follow, first_link, second_link, its_third, reading}

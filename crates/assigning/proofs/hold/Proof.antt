@@ -9,8 +9,8 @@ hold_spec =
     tie.close (tie.spec
     (λ c. search (assigning, rules))  -- enum_known-w
     (λ c. search (assigning, rules))  -- enum_known-w-in-Made-1
-    (λ c κs. can_have _ _ _ _ c.requires c.before.before.w2.given.1)  -- have-requires
-    (λ c. rw c.before.w.given.1 (has_known _ _ _))  -- returns-in-Known
+    (λ c κs. can_have _ _ _ _ c.requires c.in-Made.is)  -- have-requires
+    (λ c. rw c.in-Known.is (has_known _ _ _))  -- returns-in-Known
     (λ c. search (assigning, rules))  -- shape_of-table
-    (λ c. rw c.before.before.before.before.before.w2.given.1 (has_made _ _ _ _ _ c.have.ensures))  -- returns-in-Made
+    (λ c. rw c.in-Made.is (has_made _ _ _ _ _ c.have.ensures))  -- returns-in-Made
     )

@@ -1,5 +1,5 @@
 -- `wanted` meets its contract: each arm is what is wanted for its kind. Assumes nothing.
-use native.Mathlib.Nat.{not-le_of_lt}
+use native.Mathlib.Omega.{arith}
 use mathlib.Core.Path.{refl, ap}
 use borrow.Author.Rules.{rules}
 use Rattle.rules.specs.Kinds.{numbered, kind_of}
@@ -26,6 +26,6 @@ wanted_spec =
     (λ c. kind_wants _ _ _ _ _ _ _ (ap kind_of c.in-7.is) refl)  -- returns-in-7
     (λ c. kind_wants _ _ _ _ _ _ _ (ap kind_of c.in-8.is) (ap (λ e. known e.a) c.entry_if_any-e-in-8.ensures.is))  -- returns-in-8
     (λ c. match_wants _ _ _ _ _ _ (search (a_match, rules)) refl)  -- returns-in-9-to-14
-    (λ c. kind_wants _ _ _ _ _ _ _ (first_kind _ (λ a b. not-le_of_lt c.if-kind-lt2.true a)) refl)  -- returns-in_default
-    (λ c. kind_wants _ _ _ _ _ _ _ (first_kind _ (λ a b. not-le_of_lt b c.if-kind-lt15.false)) refl)  -- returns-in_default-2
+    (λ c. kind_wants _ _ _ _ _ _ _ (first_kind c.args.r.kind (λ a b. omega arith)) refl)  -- returns-in_default
+    (λ c. kind_wants _ _ _ _ _ _ _ (first_kind c.args.r.kind (λ a b. omega arith)) refl)  -- returns-in_default-2
     )

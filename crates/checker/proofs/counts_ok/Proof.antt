@@ -7,10 +7,10 @@ use Rattle.checker.proofs.counts_ok.Tie as tie
 pub counts_ok_spec : {M : Type 1} → statement M
 counts_ok_spec =
     tie.close (tie.spec
-    (λ c. search rules)  -- cast-in-range
-    (λ c κs. search rules)  -- in-range-requires
-    (λ c. search rules)  -- cast-in-range-2
-    (λ c κs. search rules)  -- in-range-requires-2
+    (λ c. search rules)  -- overflow_cast-in_range
+    (λ c κs. search rules)  -- in_range-requires
+    (λ c. search rules)  -- overflow_cast-in_range-2
+    (λ c κs. search rules)  -- in_range-requires-2
     (λ c κs. search rules)  -- both-requires
     (λ c. search (counts_told, rules))  -- returns
     )

@@ -8,8 +8,8 @@ use Rattle.checker.proofs.program_refusal.Tie as tie
 pub program_refusal_spec : {M : Type 1} → statement M
 program_refusal_spec =
     tie.close (tie.spec
-    (λ c κs. search rules)  -- size-refusal-requires
-    (λ c. search (parting, rules))  -- returns
-    (λ c κs. search (parting, rules))  -- parts-refusal-requires
-    (λ c. search (Walking-on, rules))  -- returns-2
+    (λ c κs. search rules)  -- size_refusal-size-requires
+    (λ c. search (parting, rules))  -- returns-then-size-ne0
+    (λ c κs. search (parting, rules))  -- parts_refusal-requires
+    (λ c. search (Walking-on, rules))  -- returns
     )

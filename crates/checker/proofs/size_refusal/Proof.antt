@@ -8,20 +8,20 @@ pub size_refusal_spec : {M : Type 1} → statement M
 size_refusal_spec =
     tie.close (tie.spec
     (λ c κs. search (counting, rules))  -- refuse-requires
+    (λ c. search (counting, rules))  -- returns-then-length-lt4
+    (λ c κs. search (counting, rules))  -- get16-types-requires
+    (λ c κs. search (counting, rules))  -- get16-count-requires
+    (λ c κs. search (counting, rules))  -- counts_ok-requires
+    (λ c κs. search (counting, rules))  -- refuse-requires-then-not-counts_ok
+    (λ c. search (counting, rules))  -- returns-then-not-counts_ok
+    (λ c. search (counting, rules))  -- overflow_cast-end
+    (λ c. search (counting, rules))  -- overflow_mul-end
+    (λ c. search (counting, rules))  -- overflow_add-end
+    (λ c. search (counting, rules))  -- overflow_cast-count
+    (λ c. search (counting, rules))  -- overflow_mul-count
+    (λ c. search (counting, rules))  -- overflow_add-end-2
+    (λ c κs. search (counting, rules))  -- refuse-requires-then-length-end
+    (λ c. search (counting, rules))  -- returns-then-length-end
+    (λ c κs. search (counting, rules))  -- no_refusal-requires
     (λ c. search (counting, rules))  -- returns
-    (λ c κs. search (counting, rules))  -- get16-requires
-    (λ c κs. search (counting, rules))  -- get16-requires-2
-    (λ c κs. search (counting, rules))  -- counts-ok-requires
-    (λ c κs. search (counting, rules))  -- refuse-requires-2
-    (λ c. search (counting, rules))  -- returns-2
-    (λ c. search (counting, rules))  -- cast-end
-    (λ c. search (counting, rules))  -- mul-end
-    (λ c. search (counting, rules))  -- add-end
-    (λ c. search (counting, rules))  -- cast-if3
-    (λ c. search (counting, rules))  -- mul-if3
-    (λ c. search (counting, rules))  -- add-if3
-    (λ c κs. search (counting, rules))  -- refuse-requires-3
-    (λ c. search (counting, rules))  -- returns-3
-    (λ c κs. search (counting, rules))  -- no-refusal-requires
-    (λ c. search (counting, rules))  -- returns-4
     )

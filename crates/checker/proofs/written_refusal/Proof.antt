@@ -7,8 +7,8 @@ use Rattle.checker.proofs.written_refusal.Tie as tie
 pub written_refusal_spec : {M : Type 1} → statement M
 written_refusal_spec =
     tie.close (tie.spec
-    (λ c κs. search rules)  -- no-refusal-requires
-    (λ c. search (given_told, rules))  -- returns
-    (λ c κs. search rules)  -- omitted-refusal-requires
-    (λ c. search (omitted_told, rules))  -- returns-2
+    (λ c κs. search rules)  -- no_refusal-requires
+    (λ c. search (given_told, rules))  -- returns-then-given
+    (λ c κs. search rules)  -- omitted_refusal-requires
+    (λ c. search (omitted_told, rules))  -- returns
     )

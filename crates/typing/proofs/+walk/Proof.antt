@@ -1,6 +1,6 @@
 -- `walk` meets its contract. The measure is how many records are left. What the calls showed is gathered where the tree of a child has passed:
 -- `first_passed` and `second_passed`, which the needs after it cite.
-use Prim.Native.Nat.{ℕ, ◌-◌, ◌<◌}
+use Prim.Native.Nat.{ℕ, ◌<◌}
 use mathlib.Core.List.{List}
 use mathlib.Core.Option.{Option}
 use borrow.Author.Rules.{rules}
@@ -85,12 +85,12 @@ module _ (t : ℕ) where
 
 first_passed : (t : ℕ) (c : First t) →
     let w = c.walk-first in
-    Come t (own_of t (child_of t c)) w.new.1.1.0 w.result second_of from_second
+    Come t (own_of t (child_of t c)) w.new.binders w.result second_of from_second
 first_passed t c = search (passes_first, rules)
 
 second_passed : (t : ℕ) (c : Second t) →
     let w = c.walk-second in
-    Come t (own_of t (child_of t (first_of t (second_of_lem t (entered_of t c))))) w.new.1.1.0 w.result third_of from_third
+    Come t (own_of t (child_of t (first_of t (second_of_lem t (entered_of t c))))) w.new.binders w.result third_of from_third
 second_passed t c = search (passes_second, rules, first_passed t (first_of t (second_of_lem t (entered_of t c))))
 
 pub +walk_spec : {M : Type 1} → statement M
