@@ -52,9 +52,9 @@ def main():
                 depth += lines[i].count("(") - lines[i].count(")")
                 i += 1
             continue
-        if line.startswith(("logic /", "library ", "crate ", "rt: ")) or "is not admitted: has-holes" in line:
+        if line.startswith(("logic /", "library ", "statements ", "axioms ", "crate ", "checked ", "rt: ")) or "is not admitted: has-holes" in line:
             continue
-        done = re.match(r"fn \S+::(\S+): (proved|no holes)$", line)
+        done = re.match(r"(?:fn|struct|enum|trait|impl) \S+?::(\S+): (proved|no holes)$", line)
         if done:
             proved.append(done.group(1))
         else:

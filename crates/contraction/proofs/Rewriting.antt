@@ -40,7 +40,7 @@ redex_before {types} h = record { there = h.there; upto = h.before; low = omega 
 data PlansTo (ts : List Term) (body : Term) : ℕ → Term → Type 0 where
   plans_to : PlansTo ts body (gave_way (length ts) 0 body) (replaced ts body)
 
-planned_to : {rs : List Record} {i j lo hi end n : ℕ} {q : Plan} {t body u : Term} → PlansTo (t ∷ []) body n u → PlansTree rs i j q → Before rs lo i body → Before rs lo j t
+planned_to : {rs : List Record} {i j lo hi end : ℕ} {q : Plan} {t body : Term} {n : ℕ} {u : Term} → PlansTo (t ∷ []) body n u → PlansTree rs i j q → Before rs lo i body → Before rs lo j t
     → Planned rs lo hi end q n u
 planned_to plans_to plans h given = plans.is _ _ _ _ _ h.there (inl h.upto) h.low given.there given.upto given.low
 

@@ -1,45 +1,7 @@
-// The public calls, which the crates `check_call`, `infer_call` and `run_call` make, and their entries for C. None has a condition.
+// The public calls, which the crates `check_call`, `infer_call` and `run_call` make. None has a condition. `engine_c` has their entries for C.
 #![tactic(auto)]
-
-ghost use Rattle.std.specs.Prelude.{◌≡◌};
-ghost use Rattle.rules.specs.Editions.{first_edition};
-ghost use Rattle.rules.specs.Check.{check_answer};
-ghost use Rattle.check_call.specs.Answers.{check_meant};
-ghost use Rattle.infer_call.specs.Answers.{Inferred};
-ghost use Rattle.run_call.specs.Answers.{Ran};
 
 pub use check_call::{CheckAnswer, check};
 pub use infer_call::{InferAnswer, infer};
 pub use lending::{OUTPUT, WORK};
 pub use run_call::{RunAnswer, run};
-
-// The calls for C: each slice is a pointer and a length.
-#[unsafe(no_mangle)]
-pub extern "C" fn muntinyarrow_check(program: &[u8]) -> CheckAnswer
-    ensures { check_meant result ≡ check_answer first_edition program.now }
-{
-    check(program)
-}
-
-#[unsafe(no_mangle)]
-pub extern "C" fn muntinyarrow_infer(
-    program: &[u8],
-    output: &mut [u8],
-    work: &mut [u8],
-) -> InferAnswer
-    ensures { Inferred program.now output.old work.old result output.new work.new }
-{
-    infer(program, output, work)
-}
-
-#[unsafe(no_mangle)]
-pub extern "C" fn muntinyarrow_run(
-    program: &[u8],
-    fuel: u32,
-    output: &mut [u8],
-    work: &mut [u8],
-) -> RunAnswer
-    ensures { Ran program.now fuel output.old work.old result output.new work.new }
-{
-    run(program, fuel, output, work)
-}

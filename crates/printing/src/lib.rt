@@ -1,10 +1,10 @@
-// Prints the listing of an input to standard output, and tells whether all of it was written.
+// Prints the listing of an input to standard output. Its error says that not all of it was written.
 #![tactic(auto)]
 
-use libc::STDOUT_FILENO;
+use std::io;
 
-pub fn print_listing(input: &[u8]) -> bool {
+pub fn print_listing(rt: &impl Print, input: &[u8]) -> io::Result<()> {
     let mut text = [0u8; listings::TEXT];
     let n = listings::listing_of(input, &mut text);
-    io::write_all(STDOUT_FILENO, &text[..n])
+    rt.write_all(&text[..n])
 }

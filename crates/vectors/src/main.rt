@@ -1,10 +1,13 @@
 // Prints the name and the listing of each input that the file `names` names, one name to a line, and then of each that `infers` names what infer
-// answers and writes, and of each that `runs` names what run does.
+// answers and writes, and of each that `runs` names what run does. A file that can't be read ends the program with an error.
 #![tactic(auto)]
 
 mod answers; // what infer and run answer and write, as text
 
-use libc::STDOUT_FILENO;
+use reading::INPUT;
+use std::io::{self, ErrorKind};
+use std::rt::Files;
+use std::str;
 
 // What is printed of an input.
 #[derive(Clone, Copy)]
@@ -14,62 +17,39 @@ enum Text {
     Run,
 }
 
-fn print_input(input: &[u8], text: Text) -> bool {
+fn print_input(rt: &impl Print, input: &[u8], text: Text) -> io::Result<()> {
     match text {
-        Text::Listing => printing::print_listing(input),
-        Text::Infer => {
-            answers::print_infer(input);
-            true
-        }
-        Text::Run => {
-            answers::print_run(input);
-            true
-        }
+        Text::Listing => printing::print_listing(rt, input),
+        Text::Infer => answers::print_infer(rt, input),
+        Text::Run => answers::print_run(rt, input),
     }
 }
 
-fn print_file(name: &[u8], text: Text) {
-    let fd = os::open_read(name);
-    if fd < 0 {
-        os::fail(name);
-        return;
+fn print_file(rt: &(impl Files + Print), name: &str, text: Text) -> io::Result<()> {
+    let mut input = [0u8; INPUT];
+    let n = reading::read_file(rt, name, &mut input)?;
+    rt.println(name)?;
+    print_input(rt, &input[..n], text)
+}
+
+fn print_files(rt: &(impl Files + Print), names: &str, text: Text) -> io::Result<()> {
+    for name in names.lines() {
+        print_file(rt, name, text)?;
     }
-    let mut input = io::large_buffer();
-    let n = io::read_full(fd, &mut input);
-    libc::close(fd);
-    io::write_all(STDOUT_FILENO, name);
-    io::write_all(STDOUT_FILENO, b"\n");
-    if !print_input(&input[..n], text) {
-        os::fail(name);
+    Ok(())
+}
+
+fn print_list(rt: &(impl Files + Print), list: &str, text: Text) -> io::Result<()> {
+    let mut names = [0u8; INPUT];
+    let n = reading::read_file(rt, list, &mut names)?;
+    match str::from_utf8(&names[..n]) {
+        Ok(names) => print_files(rt, names, text),
+        Err(_) => Err(io::Error::new(ErrorKind::InvalidData, "a name is no text")),
     }
 }
 
-fn print_files(names: &[u8], text: Text) {
-    let mut start = 0;
-    let mut i = 0;
-    while i < names.len() {
-        if names[i] == b'\n' {
-            print_file(&names[start..i], text);
-            start = i + 1;
-        }
-        i += 1;
-    }
-}
-
-fn print_list(list: &[u8], text: Text) {
-    let fd = os::open_read(list);
-    if fd < 0 {
-        os::fail(list);
-        return;
-    }
-    let mut names = io::large_buffer();
-    let n = io::read_full(fd, &mut names);
-    libc::close(fd);
-    print_files(&names[..n], text);
-}
-
-fn main() {
-    print_list(b"names", Text::Listing);
-    print_list(b"infers", Text::Infer);
-    print_list(b"runs", Text::Run);
+fn main(rt: HostRuntime) -> io::Result<()> {
+    print_list(&rt, "names", Text::Listing)?;
+    print_list(&rt, "infers", Text::Infer)?;
+    print_list(&rt, "runs", Text::Run)
 }

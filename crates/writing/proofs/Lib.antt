@@ -1,7 +1,6 @@
 -- The laws that the proofs of the code rest on.
 pub mod Copying
 pub mod Slots
-pub mod State
 pub mod Children
 pub mod Tree
 pub mod Records

@@ -7,11 +7,11 @@ use Rattle.matching.proofs.match_rule.Tie as tie
 pub match_rule_spec : {M : Type 1} → statement M
 match_rule_spec =
     tie.close (tie.spec
-    (λ c κs. search (ruling, rules))  -- kind-at-requires
-    (λ c. search (ruling, rules))  -- mul-rule
-    (λ c. search (ruling, rules))  -- sub-rule
+    (λ c κs. search (ruling, rules))  -- kind_at-requires
+    (λ c. search (ruling, rules))  -- overflow_mul-rule
+    (λ c. search (ruling, rules))  -- overflow_sub-rule
     (λ c κs. search (ruling, rules))  -- matches-requires
-    (λ c. search (ruling, rules))  -- add-result
-    (λ c. search (ruling, rules))  -- returns
-    (λ c. search (ruling, rules))  -- returns-2
+    (λ c. search (ruling, rules))  -- overflow_add-result
+    (λ c. search (ruling, rules))  -- returns-then-matches
+    (λ c. search (ruling, rules))  -- returns-else-matches
     )

@@ -7,6 +7,6 @@ use Rattle.matching.proofs.opened_at.Tie as tie
 pub opened_at_spec : {M : Type 1} → statement M
 opened_at_spec =
     tie.close (tie.spec
-    (λ c κs. search (succeeding, rules))  -- entry-no-requires
+    (λ c κs. search (succeeding, rules))  -- entry_no-e-requires
     (λ c. search (succeeding, rules))  -- returns
     )

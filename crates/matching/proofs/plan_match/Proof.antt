@@ -9,6 +9,6 @@ plan_match_spec =
     tie.close (tie.spec
     (λ c κs. search (outcomes, rules))  -- success-requires
     (λ c κs. search (outcomes, rules))  -- skip-requires
-    (λ c. search (outcomes, rules))  -- returns
-    (λ c. search (outcomes, rules))  -- returns-2
+    (λ c. search (outcomes, rules))  -- returns-then-rule-eq1
+    (λ c. search (outcomes, rules))  -- returns-else-rule-eq1
     )

@@ -7,8 +7,8 @@ use Rattle.matching.proofs.second_type.Tie as tie
 pub second_type_spec : {M : Type 1} → statement M
 second_type_spec =
     tie.close (tie.spec
-    (λ c. search (telling, rules))  -- add-skip
-    (λ c κs. search (telling, rules))  -- skip-requires
-    (λ c κs. search (telling, rules))  -- get-requires
+    (λ c. search (telling, rules))  -- overflow_add-i
+    (λ c κs. search (telling, rules))  -- skip-at-requires
+    (λ c κs. search (telling, rules))  -- get-r-requires
     (λ c. search (telling, rules))  -- returns
     )

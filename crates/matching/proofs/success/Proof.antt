@@ -8,21 +8,21 @@ use Rattle.matching.proofs.success.Tie as tie
 pub success_spec : {M : Type 1} → statement M
 success_spec =
     tie.close (tie.spec
-    (λ c κs. search (reading, succeeding, rules))  -- get-requires
-    (λ c. search (reading, succeeding, rules))  -- add-skip
-    (λ c κs. search (reading, succeeding, rules))  -- skip-requires
+    (λ c κs. search (reading, succeeding, rules))  -- get-r-requires
+    (λ c. search (reading, succeeding, rules))  -- overflow_add-p
+    (λ c κs. search (reading, succeeding, rules))  -- skip-argument-requires
     (λ c. search (reading, succeeding, rules))  -- add-t10
-    (λ c κs. search (reading, succeeding, rules))  -- body-with-requires
+    (λ c κs. search (reading, succeeding, rules))  -- body_with-requires
     (λ c. search (reading, succeeding, rules))  -- add-t13
-    (λ c κs. search (reading, succeeding, rules))  -- body-with-one-requires
-    (λ c. search (reading, succeeding, rules))  -- add-opened-at
-    (λ c κs. search (reading, succeeding, rules))  -- opened-at-requires
-    (λ c κs. search (reading, succeeding, rules))  -- body-with-one-requires-2
+    (λ c κs. search (reading, succeeding, rules))  -- body_with_one-requires
+    (λ c. search (reading, succeeding, rules))  -- overflow_add-p-in-13
+    (λ c κs. search (reading, succeeding, rules))  -- opened_at-requires
+    (λ c κs. search (reading, succeeding, rules))  -- body_with_one-requires-in-14
     (λ c. search (reading, succeeding, rules))  -- add-t17
     (λ c κs. search (reading, succeeding, rules))  -- body-with-one-requires-3
-    (λ c. search (reading, succeeding, rules))  -- returns
-    (λ c. search (reading, succeeding, rules))  -- returns-2
-    (λ c. search (reading, succeeding, rules))  -- returns-3
-    (λ c. search (reading, succeeding, rules))  -- returns-4
-    (λ c. search (reading, succeeding, rules))  -- returns-5
+    (λ c. search (reading, succeeding, rules))  -- returns-in-11
+    (λ c. search (reading, succeeding, rules))  -- returns-in-12
+    (λ c. search (reading, succeeding, rules))  -- returns-in-13
+    (λ c. search (reading, succeeding, rules))  -- returns-in-14
+    (λ c. search (reading, succeeding, rules))  -- returns-in_default
     )

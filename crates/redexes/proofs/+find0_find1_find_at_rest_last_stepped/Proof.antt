@@ -80,53 +80,53 @@ abbrev last_stepped_claims : ℕ → last-stepped-lts.Claims
 last_stepped_claims t = (stepping-at-zero-reads.Asked, stepping-at-zero-reads.Learnt, find0_below t, find0.Post)
 
 -- The search has come to a tree from which it goes on.
-abbrev find0-Inv-loop : find0-lts.invariant-loop
+abbrev find0-Inv-loop : find0-lts.invariant-loop-p
 find0-Inv-loop w i at₀ passed₀ any₀ kind₀ at passed any kind = Descending (records_in w) i at passed any kind
 
-abbrev find0_μ_loop : find0-lts.decreases-loop
-find0_μ_loop w i at₀ passed₀ any₀ kind₀ at passed any kind = get_or (records_in w) at no_record.first
+abbrev find0_μ_loop : find0-lts.decreases-loop-p
+find0_μ_loop w i at₀ passed₀ any₀ kind₀ at passed any kind = (get_or (records_in w) at no_record).first
 
-pub +find0-find1-find-at-rest-last-stepped-spec : {M : Type 1} → statement M
-+find0-find1-find-at-rest-last-stepped-spec = close μ_find0 μ_find1 μ_find_at_rest μ_last_stepped
+pub +find0_find1_find_at_rest_last_stepped_spec : {M : Type 1} → statement M
++find0_find1_find_at_rest_last_stepped_spec = close μ_find0 μ_find1 μ_find_at_rest μ_last_stepped
     (λ t. find0-lts.spec (find0_claims t) (find0_at t) find0.Post find0-Inv-loop find0_μ_loop
-    (λ c κs. search (descending, rules))  -- kind-at-requires
-    (λ c. search (descending, rules))  -- loop-holds
-    (λ c κs. search (descending, rules))  -- contracts-at-zero-requires
-    (λ c κs. search (descending, rules))  -- last-stepped-requires
-    (λ c. search (descending, rules))  -- enum-known-p
+    (λ c κs. search (descending, rules))  -- kind_at-kind-requires
+    (λ c. search (descending, rules))  -- loop-p-init
+    (λ c κs. search (descending, rules))  -- contracts_at_zero-requires
+    (λ c κs. search (descending, rules))  -- last_stepped-requires
+    (λ c. search (descending, rules))  -- enum_known-p
+    (λ c. search (descending, rules))  -- returns-in-Redex
+    (λ c. search (descending, rules))  -- enum_known-e
+    (λ c κs. search (descending, rules))  -- kind_at-kind-requires-in-loop-p
+    (λ c. search (descending, rules))  -- loop-p-smaller
+    (λ c. search (descending, rules))  -- loop-p-preserved
+    (λ c κs. search (descending, rules))  -- find_at_rest-requires
+    (λ c κs. search (descending, rules))  -- or_here-requires
     (λ c. search (descending, rules))  -- returns
-    (λ c. search (descending, rules))  -- enum-known-e
-    (λ c κs. search (descending, rules))  -- kind-at-requires-2
-    (λ c. search (descending, rules))  -- loop-less
-    (λ c. search (descending, rules))  -- loop-again
-    (λ c κs. search (descending, rules))  -- find-at-rest-requires
-    (λ c κs. search (descending, rules))  -- or-here-requires
-    (λ c. search (descending, rules))  -- returns-2
     )
     (λ t. find1-lts.spec (find1_claims t) (find1_at t) find1.Post
-    (λ c κs. search (splicing, rules))  -- first-splice-requires
-    (λ c. search (splicing, rules))  -- enum-known-splice
-    (λ c. search (splicing, rules))  -- add-find0
+    (λ c κs. search (splicing, rules))  -- first_splice-splice-requires
+    (λ c. search (splicing, rules))  -- enum_known-splice
+    (λ c. search (splicing, rules))  -- overflow_add-p
     (λ c κs. search (splicing, rules))  -- find0-requires
-    (λ c κs. search (splicing, rules))  -- or-here-requires
-    (λ c. search (splicing, rules))  -- enum-known-splice-2
-    (λ c. search (splicing, rules))  -- returns
-    (λ c. search (splicing, rules))  -- returns-2
+    (λ c κs. search (splicing, rules))  -- or_here-requires
+    (λ c. search (splicing, rules))  -- enum_known-splice-in-Done-1
+    (λ c. search (splicing, rules))  -- returns-in-Redex
+    (λ c. search (splicing, rules))  -- returns-in-Done
     )
     (λ t. find-at-rest-lts.spec (find_at_rest_claims t) (find_at_rest_at t) find-at-rest.Post
-    (λ c κs. search (descending, rules))  -- kind-at-requires
-    (λ c κs. search (descending, rules))  -- first-level-requires
-    (λ c. search (descending, rules))  -- add-find1
+    (λ c κs. search (descending, rules))  -- kind_at-requires
+    (λ c κs. search (descending, rules))  -- first_level-requires
+    (λ c. search (descending, rules))  -- overflow_add-i
     (λ c κs. search (descending, rules))  -- find1-requires
-    (λ c. search (descending, rules))  -- returns
+    (λ c. search (descending, rules))  -- returns-then-first_level-eq1
     (λ c κs. search (descending, rules))  -- skip-requires
-    (λ c. search (descending, rules))  -- returns-2
+    (λ c. search (descending, rules))  -- returns
     )
     (λ t. last-stepped-lts.spec (last_stepped_claims t) (last_stepped_at t) last-stepped.Post
-    (λ c κs. search (descending, rules))  -- stepping-at-zero-requires
-    (λ c. search (descending, rules))  -- add-find0
+    (λ c κs. search (descending, rules))  -- stepping_at_zero-requires
+    (λ c. search (descending, rules))  -- overflow_add-i
     (λ c κs. search (descending, rules))  -- find0-requires
+    (λ c. search (descending, rules))  -- returns-then-stepping_at_zero-eq2
+    (λ c. search (descending, rules))  -- overflow_add-result
     (λ c. search (descending, rules))  -- returns
-    (λ c. search (descending, rules))  -- add-t7
-    (λ c. search (descending, rules))  -- returns-2
     )

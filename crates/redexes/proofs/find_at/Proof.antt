@@ -27,6 +27,6 @@ find_at_spec =
     tie.close (tie.spec
     (λ c κs. search (level_tree, rules))  -- find0-requires
     (λ c κs. search (level_tree, rules))  -- find1-requires
-    (λ c. search (level_zero, rules))  -- returns
-    (λ c. search (level_one, rules))  -- returns-2
+    (λ c. search (level_zero, rules))  -- returns-then-level-eq0
+    (λ c. search (level_one, rules))  -- returns-else-level-eq0
     )

@@ -9,29 +9,29 @@ use Rattle.redexes.proofs.Scanning.{Scanning, scanning, scan_enters}
 use Rattle.redexes.proofs.first_splice.Statement.{statement}
 use Rattle.redexes.proofs.first_splice.Tie as tie
 
-abbrev invariant-loop : tie.invariant-loop
+abbrev invariant-loop : tie.invariant-loop-pending
 invariant-loop w i at₀ pending₀ at pending = Scanning (records_in w) i at pending
 
-abbrev decreases-loop : tie.decreases-loop
+abbrev decreases-loop : tie.decreases-loop-pending
 decreases-loop w i at₀ pending₀ at pending = i + (get_or (records_in w) i no_record).first - at
 
 pub first_splice_spec : {M : Type 1} → statement M
 first_splice_spec =
     tie.close (tie.spec invariant-loop decreases-loop
-    (λ c. search (scanning, rules))  -- loop-holds
-    (λ c κs. search (scanning, rules))  -- kind-at-requires
-    (λ c κs. search (scanning, rules))  -- contracts-at-one-requires
-    (λ c. search (scanning, rules))  -- returns
-    (λ c. search (scanning, rules))  -- sub-pending
-    (λ c κs. search (scanning, rules))  -- splice-below-requires
+    (λ c. search (scanning, rules))  -- loop-pending-init
+    (λ c κs. search (scanning, rules))  -- kind_at-kind-requires
+    (λ c κs. search (scanning, rules))  -- contracts_at_one-requires
+    (λ c. search (scanning, rules))  -- returns-then-contracts_at_one
+    (λ c. search (scanning, rules))  -- overflow_sub-pending
+    (λ c κs. search (scanning, rules))  -- splice_below-requires
     (λ c κs. search (scanning, rules))  -- children-requires
-    (λ c. search (scanning, rules))  -- cast-pending
-    (λ c. search (scanning, rules))  -- add-pending
-    (λ c. search (scanning, rules))  -- add-at
-    (λ c. search (scanning, rules))  -- loop-less
-    (λ c. scan_enters _ _ _ _ c.before.before.before.before.before.before.before.loop.invariant c.before.before.before.before.before.before.loop-test.true _ c.before.before.before.before.before.kind_at.ensures _ c.before.before.splice-below.ensures c.before.if2.true _ c.children.ensures)  -- loop-again
-    (λ c κs. search (scanning, rules))  -- skip-requires
-    (λ c. search (scanning, rules))  -- loop-less-2
-    (λ c. search (scanning, rules))  -- loop-again-2
-    (λ c. search (scanning, rules))  -- returns-2
+    (λ c. search (scanning, rules))  -- overflow_cast-pending
+    (λ c. search (scanning, rules))  -- overflow_add-pending
+    (λ c. search (scanning, rules))  -- overflow_add-at
+    (λ c. search (scanning, rules))  -- loop-pending-smaller-then-splice_below
+    (λ c. scan_enters _ _ _ _ c.loop-pending.invariant c.loop-pending-test.true _ c.kind_at-kind.ensures _ c.splice_below.ensures c.if-splice_below.true _ c.children.ensures)  -- loop-pending-preserved-then-splice_below
+    (λ c κs. search (scanning, rules))  -- skip-at-requires
+    (λ c. search (scanning, rules))  -- loop-pending-smaller
+    (λ c. search (scanning, rules))  -- loop-pending-preserved
+    (λ c. search (scanning, rules))  -- returns
     )

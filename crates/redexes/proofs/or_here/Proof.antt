@@ -9,6 +9,6 @@ unfolding or_here
 or_here_spec = tie.close (tie.spec
     (λ c. search rules)
     (λ c. search rules)
-    (λ c. rw (c.before.inside.given.1, or_here))
-    (λ c. rw (c.before.before.inside2.given.1, c.if1.true, or_here))
-    (λ c. rw (c.before.before.inside2.given.1, c.if1.false, or_here)))
+    (λ c. rw (c.in-Redex.is, or_here))
+    (λ c. rw (c.in-Done.is, c.if-rewritten.true, or_here))
+    (λ c. rw (c.in-Done.is, c.if-rewritten.false, or_here)))

@@ -8,9 +8,9 @@ pub write_typed_spec : {M : Type 1} → statement M
 write_typed_spec =
     tie.close (tie.spec
     (λ c κs. search (loading, rules))  -- load-requires
-    (λ c κs. search (loading, rules))  -- put-types-requires
-    (λ c κs. search (typed_fits, c.before.before.before.before.before.before.before.before.load.ensures))  -- write-program-requires
-    (λ c. search (loading, rules))  -- same-length
-    (λ c. search (loading, rules))  -- same-length-2
-    (λ c. search (typed_written, c.before.before.before.before.before.before.before.before.before.before.before.load.ensures))  -- returns
+    (λ c κs. search (loading, rules))  -- put_types-requires
+    (λ c κs. search (typed_fits, c.load.ensures))  -- write_program-requires
+    (λ c. search (loading, rules))  -- shape_of-work
+    (λ c. search (loading, rules))  -- shape_of-output
+    (λ c. search (typed_written, c.load.ensures))  -- returns
     )

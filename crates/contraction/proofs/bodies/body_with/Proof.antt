@@ -7,7 +7,7 @@ use Rattle.contraction.proofs.bodies.body_with.Tie as tie
 pub body_with_spec : {M : Type 1} → statement M
 body_with_spec =
     tie.close (tie.spec
-    (λ c κs. search (bodies, rules))  -- bound-at-requires
-    (λ c. search (bodies, rules))  -- returns
-    (λ c. search (bodies, rules))  -- returns-2
+    (λ c κs. search (bodies, rules))  -- bound_at-requires
+    (λ c. search (bodies, rules))  -- returns-then-bound_at-eq0
+    (λ c. search (bodies, rules))  -- returns-else-bound_at-eq0
     )

@@ -7,14 +7,14 @@ use Rattle.contraction.proofs.making.fits.Tie as tie
 pub fits_spec : {M : Type 1} → statement M
 fits_spec =
     tie.close (tie.spec
-    (λ c. search (measuring, rules))  -- enum-known-plan
+    (λ c. search (measuring, rules))  -- enum_known-plan
     (λ c κs. search (measuring, rules))  -- skip-requires
-    (λ c. search (measuring, rules))  -- sub-result
-    (λ c. search (measuring, rules))  -- enum-known-plan-2
-    (λ c κs. search (measuring, rules))  -- replaced-fits-requires
-    (λ c. search (measuring, rules))  -- enum-known-plan-3
-    (λ c κs. search (measuring, rules))  -- argument-size-requires
-    (λ c. search (measuring, rules))  -- returns
-    (λ c. search (measuring, rules))  -- returns-2
-    (λ c. search (measuring, rules))  -- returns-3
+    (λ c. search (measuring, rules))  -- overflow_sub-result
+    (λ c. search (measuring, rules))  -- enum_known-plan-in-Body-1
+    (λ c κs. search (measuring, rules))  -- replaced_fits-requires
+    (λ c. search (measuring, rules))  -- enum_known-plan-in-Made-1
+    (λ c κs. search (measuring, rules))  -- argument_size-requires
+    (λ c. search (measuring, rules))  -- returns-in-Tree
+    (λ c. search (measuring, rules))  -- returns-in-Body
+    (λ c. search (measuring, rules))  -- returns-in-Made
     )

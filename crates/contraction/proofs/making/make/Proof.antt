@@ -7,19 +7,19 @@ use Rattle.contraction.proofs.making.make.Tie as tie
 pub make_spec : {M : Type 1} → statement M
 make_spec =
     tie.close (tie.spec
-    (λ c. search (making, rules))  -- enum-known-plan
-    (λ c κs. search (making, rules))  -- skip-requires
+    (λ c. search (making, rules))  -- enum_known-plan
+    (λ c κs. search (making, rules))  -- skip-end-requires
     (λ c. search (making, rules))  -- sub-t14
-    (λ c. search (making, rules))  -- enum-known-plan-2
-    (λ c κs. search (making, rules))  -- copy-replaced-requires
+    (λ c. search (making, rules))  -- enum_known-plan-in-Body-1
+    (λ c κs. search (making, rules))  -- copy_replaced-c-requires
     (λ c. search (making, rules))  -- sub-t17
-    (λ c. search (making, rules))  -- enum-known-plan-3
-    (λ c κs. search (making, rules))  -- copy-argument-requires
+    (λ c. search (making, rules))  -- enum_known-plan-in-Made-1
+    (λ c κs. search (making, rules))  -- copy_argument-end-requires
     (λ c. search (making, rules))  -- sub-t20
-    (λ c. search (making, rules))  -- same-length
-    (λ c. search (making, rules))  -- returns
-    (λ c. search (making, rules))  -- same-length-2
-    (λ c. search (making, rules))  -- returns-2
-    (λ c. search (making, rules))  -- same-length-3
-    (λ c. search (making, rules))  -- returns-3
+    (λ c. search (making, rules))  -- shape_of-w-in-Tree
+    (λ c. search (making, rules))  -- returns-in-Tree
+    (λ c. search (making, rules))  -- shape_of-w-in-Body
+    (λ c. search (making, rules))  -- returns-in-Body
+    (λ c. search (making, rules))  -- shape_of-w-in-Made
+    (λ c. search (making, rules))  -- returns-in-Made
     )

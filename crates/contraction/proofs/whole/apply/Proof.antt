@@ -7,9 +7,9 @@ use Rattle.contraction.proofs.whole.apply.Tie as tie
 pub apply_spec : {M : Type 1} → statement M
 apply_spec =
     tie.close (tie.spec
-    (λ c. search (rewriting, rules))  -- add-skip
-    (λ c κs. search (rewriting, rules))  -- skip-requires
-    (λ c. search (rewriting, rules))  -- add-body-with-tree
-    (λ c κs. search (rewriting, rules))  -- body-with-tree-requires
+    (λ c. search (rewriting, rules))  -- overflow_add-s
+    (λ c κs. search (rewriting, rules))  -- skip-argument-requires
+    (λ c. search (rewriting, rules))  -- overflow_add-s-2
+    (λ c κs. search (rewriting, rules))  -- body_with_tree-requires
     (λ c. search (rewriting, rules))  -- returns
     )

@@ -7,7 +7,7 @@ use Rattle.contraction.proofs.whole.lift.Tie as tie
 pub lift_spec : {M : Type 1} → statement M
 lift_spec =
     tie.close (tie.spec
-    (λ c κs. search (rewriting, rules))  -- get-requires
-    (λ c. search (rewriting, rules))  -- add-t4
+    (λ c κs. search (rewriting, rules))  -- get-r-requires
+    (λ c. search (rewriting, rules))  -- overflow_add-result
     (λ c. search (rewriting, rules))  -- returns
     )

@@ -7,9 +7,9 @@ use Rattle.contraction.proofs.whole.whole_rule.Tie as tie
 pub whole_rule_spec : {M : Type 1} → statement M
 whole_rule_spec =
     tie.close (tie.spec
-    (λ c κs. search (rewriting, rules))  -- get-requires
-    (λ c. search (rewriting, rules))  -- returns
-    (λ c. search (rewriting, rules))  -- returns-2
-    (λ c. search (rewriting, rules))  -- returns-3
-    (λ c. search (rewriting, rules))  -- returns-4
+    (λ c κs. search (rewriting, rules))  -- get-r-requires
+    (λ c. search (rewriting, rules))  -- returns-in-4
+    (λ c. search (rewriting, rules))  -- returns-in-5
+    (λ c. search (rewriting, rules))  -- returns-in-6
+    (λ c. search (rewriting, rules))  -- returns-in_default
     )

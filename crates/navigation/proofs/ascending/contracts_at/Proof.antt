@@ -1,6 +1,6 @@
 -- `contracts_at` meets its contract. Assumes nothing.
 use native.Mathlib.Omega.{arith}
-use mathlib.Core.Path.{ap, ◌∙◌}
+use mathlib.Core.Path.{◌≡◌, ap, ◌∙◌}
 use borrow.Author.Rules.{rules}
 use Rattle.rules.specs.Kinds.{kind_of}
 use Rattle.rules.specs.Contractions.{contracts}
@@ -10,8 +10,8 @@ use Rattle.navigation.proofs.ascending.contracts_at.Tie as tie
 pub contracts_at_spec : {M : Type 1} → statement M
 contracts_at_spec =
     tie.close (tie.spec
-    (λ c κs. search rules)  -- contracts-at-zero-requires
-    (λ c κs. search rules)  -- contracts-at-one-requires
-    (λ c. c.contracts-at-zero.ensures ∙ ap (λ l. contracts l (kind_of c.before.before.args.kind)) (omega arith))  -- returns
-    (λ c. c.contracts-at-one.ensures ∙ ap (λ l. contracts l (kind_of c.before.before.args.kind)) (omega arith))  -- returns-2
+    (λ c κs. search rules)  -- contracts_at_zero-requires
+    (λ c κs. search rules)  -- contracts_at_one-requires
+    (λ c. let e : 0 ≡ c.args.level = omega arith in c.contracts_at_zero.ensures ∙ ap (λ l. contracts l (kind_of c.args.kind)) e)  -- returns-then-level-eq0
+    (λ c. let e : 1 ≡ c.args.level = omega arith in c.contracts_at_one.ensures ∙ ap (λ l. contracts l (kind_of c.args.kind)) e)  -- returns-else-level-eq0
     )

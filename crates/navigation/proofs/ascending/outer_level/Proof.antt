@@ -10,6 +10,6 @@ use Rattle.navigation.proofs.ascending.outer_level.Tie as tie
 
 pub outer_level_spec : {M : Type 1} → statement M
 outer_level_spec = tie.close (tie.spec
-    (λ c. arm itself itself_one (λ k. outer_level k c.before.args.level) 0 7 7 (omega arith) _ (omega arith))
-    (λ c. arm itself itself_one (λ k. outer_level k c.before.args.level) 1 8 8 (omega arith) _ (omega arith))
-    (λ c. keeps_level (kind_of c.before.args.kind) (rest itself itself_one (λ k. outer_level k 2) 2 ((7, 8) ∷ []) (omega arith) c.before.args.kind ((λ p q. omega arith), tt)) c.before.args.level))
+    (λ c. arm itself itself_one (λ k. outer_level k c.args.level) 0 7 7 (omega arith) _ (omega arith))
+    (λ c. arm itself itself_one (λ k. outer_level k c.args.level) 1 8 8 (omega arith) _ (omega arith))
+    (λ c. keeps_level (kind_of c.args.kind) (rest itself itself_one (λ k. outer_level k 2) 2 ((7, 8) ∷ []) (omega arith) c.args.kind ((λ p q. omega arith), tt)) c.args.level))

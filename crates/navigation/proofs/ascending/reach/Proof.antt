@@ -7,14 +7,14 @@ use Rattle.navigation.proofs.ascending.reach.Tie as tie
 pub reach_spec : {M : Type 1} → statement M
 reach_spec =
     tie.close (tie.spec
-    (λ c κs. search (reaching, rules))  -- descend-requires
-    (λ c κs. search (reaching, rules))  -- kind-at-requires
+    (λ c κs. search (reaching, rules))  -- descend-redex-requires
+    (λ c κs. search (reaching, rules))  -- kind_at-kind-requires
     (λ c κs. search (reaching, rules))  -- children-requires
-    (λ c κs. search (reaching, rules))  -- open-ahead-requires
+    (λ c κs. search (reaching, rules))  -- open_ahead-code-requires
     (λ c κs. search (reaching, rules))  -- bring-requires
-    (λ c. search (reaching, rules))  -- same-length
-    (λ c. search (reaching, rules))  -- returns
+    (λ c. search (reaching, rules))  -- shape_of-w-then-children-eq3
+    (λ c. search (reaching, rules))  -- returns-then-children-eq3
     (λ c κs. search (reaching, rules))  -- bring-requires-2
-    (λ c. search (reaching, rules))  -- same-length-2
-    (λ c. search (reaching, rules))  -- returns-2
+    (λ c. search (reaching, rules))  -- shape_of-w
+    (λ c. search (reaching, rules))  -- returns
     )

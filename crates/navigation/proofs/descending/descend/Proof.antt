@@ -8,21 +8,21 @@ use Rattle.navigation.proofs.Downward.{Deepening, deepening}
 use Rattle.navigation.proofs.descending.descend.Statement.{statement}
 use Rattle.navigation.proofs.descending.descend.Tie as tie
 
-abbrev invariant-loop : tie.invariant-loop
+abbrev invariant-loop : tie.invariant-loop-at
 invariant-loop w₀ p at₀ w at = (length w ≡ length w₀) × Deepening (records_in w₀) at₀ p (records_in w) at
 
-abbrev decreases-loop : tie.decreases-loop
+abbrev decreases-loop : tie.decreases-loop-at
 decreases-loop w₀ p at₀ w at = p - at.r
 
 pub descend_spec : {M : Type 1} → statement M
 descend_spec =
     tie.close (tie.spec invariant-loop decreases-loop
-    (λ c. search (deepening, rules))  -- loop-holds
-    (λ c. search (deepening, rules))  -- add-child-towards
-    (λ c κs. search (deepening, rules))  -- child-towards-requires
-    (λ c κs. search (deepening, rules))  -- open-ahead-requires
-    (λ c. search (deepening, rules))  -- loop-less
-    (λ c. search (deepening, rules))  -- loop-again
-    (λ c. search (deepening, rules))  -- same-length
+    (λ c. search (deepening, rules))  -- loop-at-init
+    (λ c. search (deepening, rules))  -- overflow_add-at
+    (λ c κs. search (deepening, rules))  -- child_towards-j-requires
+    (λ c κs. search (deepening, rules))  -- open_ahead-at-requires
+    (λ c. search (deepening, rules))  -- loop-at-smaller
+    (λ c. search (deepening, rules))  -- loop-at-preserved
+    (λ c. search (deepening, rules))  -- shape_of-w
     (λ c. search (deepening, rules))  -- returns
     )

@@ -5,23 +5,23 @@ use Rattle.zipper.proofs.Rows.{Counting, counting}
 use Rattle.zipper.proofs.focus.children_after.Statement.{statement}
 use Rattle.zipper.proofs.focus.children_after.Tie as tie
 
-abbrev invariant-loop : tie.invariant-loop
+abbrev invariant-loop : tie.invariant-loop-at
 invariant-loop w z kind left₀ at₀ left at = Counting (records_in w) z at left
 
-abbrev decreases-loop : tie.decreases-loop
+abbrev decreases-loop : tie.decreases-loop-at
 decreases-loop w z kind left₀ at₀ left at = left
 
 pub children_after_spec : {M : Type 1} → statement M
 children_after_spec =
     tie.close (tie.spec invariant-loop decreases-loop
-    (λ c κs. search (counting, rules))  -- kind-at-requires
-    (λ c κs. search (counting, rules))  -- children-requires
-    (λ c. search (counting, rules))  -- sub-left
-    (λ c. search (counting, rules))  -- add-at
-    (λ c. search (counting, rules))  -- loop-holds
-    (λ c κs. search (counting, rules))  -- skip-requires
-    (λ c. search (counting, rules))  -- sub-left-2
-    (λ c. search (counting, rules))  -- loop-less
-    (λ c. search (counting, rules))  -- loop-again
+    (λ c κs. search (counting, rules))  -- kind_at-kind-requires
+    (λ c κs. search (counting, rules))  -- children-left-requires
+    (λ c. search (counting, rules))  -- overflow_sub-left
+    (λ c. search (counting, rules))  -- overflow_add-at
+    (λ c. search (counting, rules))  -- loop-at-init
+    (λ c κs. search (counting, rules))  -- skip-at-requires
+    (λ c. search (counting, rules))  -- overflow_sub-left-in-loop-at
+    (λ c. search (counting, rules))  -- loop-at-smaller
+    (λ c. search (counting, rules))  -- loop-at-preserved
     (λ c. search (counting, rules))  -- returns
     )

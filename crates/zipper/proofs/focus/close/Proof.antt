@@ -7,12 +7,12 @@ use Rattle.zipper.proofs.focus.close.Tie as tie
 pub close_spec : {M : Type 1} → statement M
 close_spec =
     tie.close (tie.spec
-    (λ c κs. search (closing, rules))  -- link-at-requires
-    (λ c κs. search (closing, rules))  -- children-after-requires
-    (λ c κs. search (closing, rules))  -- skip-all-requires
-    (λ c. search (closing, rules))  -- sub-n
-    (λ c κs. search (closing, rules))  -- copy-flat-requires
-    (λ c κs. search (closing, rules))  -- mark-root-requires
-    (λ c. search (closing, rules))  -- same-length
+    (λ c κs. search (closing, rules))  -- link_at-link-requires
+    (λ c κs. search (closing, rules))  -- children_after-after-requires
+    (λ c κs. search (closing, rules))  -- skip_all-end-requires
+    (λ c. search (closing, rules))  -- overflow_sub-n
+    (λ c κs. search (closing, rules))  -- copy_flat-requires
+    (λ c κs. search (closing, rules))  -- mark_root-last-requires
+    (λ c. search (closing, rules))  -- shape_of-w
     (λ c. search (closing, rules))  -- returns
     )
