@@ -1,9 +1,6 @@
 -- The laws of the walk: `filling` for search.
 use Prim.Native.Nat.{ℕ, ◌+◌, ◌-◌, ◌*◌, ◌<◌}
 use native.Mathlib.Omega.{arith}
-use mathlib.Core.Bool.{true, false, not}
-use lib.Dec.{T, eqb, eqb→eq}
-use borrow.Author.Tests.{not-false}
 use mathlib.Core.Path.{◌≡◌, refl, ap, sym, subst, ◌∙◌}
 use mathlib.Core.List.{List, ◌∷◌, ◌++◌}
 use mathlib.Core.Option.{Option, none}
@@ -42,10 +39,6 @@ use Rattle.filling.proofs.Inferring.{infers_first, infers_second}
 use Rattle.filling.proofs.Coming.{size_there, Come, one_left, entered, come_child, come_type, come_before, come_further}
 use Rattle.filling.proofs.Sequence.{Three, follows, told_three, all_three}
 
--- A number that is not told apart from 0.
-no_fault : (x : ℕ) → not (eqb x 0) ≡ false → x ≡ 0
-no_fault x h = eqb→eq x 0 (subst T (sym (not-false (eqb x 0) h)) tt)
-
 -- Record n, as it is read, can be given its type.
 pub can_assign : (rs : List Record) (es : Table) (gs bs : List ℕ) (d n left : ℕ) (done : Progress) (x y : ℕ) (own : Read) → CanSettle rs es gs bs d n left done x y
     → IsRecord rs n own → CanAssign es done.types bs d own x y
@@ -78,18 +71,18 @@ module _ (rs : List Record) (es : Table) (gs bs : List ℕ) (d l n : ℕ) (befor
         room = refl;
       }
 
-  pub child_after_fault : not (eqb before.number 0) ≡ true → FillsChild rs es es gs gs bs bs d l n before idle
-  child_after_fault h = record { stays = λ _. refl; goes = λ z. let e : ◌≡◌ {A = ℕ} 0 1 = cc (rw z at h) in absurd (omega arith); kept = refl; less = omega arith; room = refl }
+  pub child_after_fault : (before.number ≡ 0 → ⊥) → FillsChild rs es es gs gs bs bs d l n before idle
+  child_after_fault h = record { stays = λ _. refl; goes = λ z. absurd (h z); kept = refl; less = omega arith; room = refl }
 
-  pub child_there : (n ≡ 0 → ⊥) → not (eqb before.number 0) ≡ false → CanFill rs es gs bs d n before.types before.left
-  child_there h z = can.can (no_fault before.number z) h
+  pub child_there : (n ≡ 0 → ⊥) → before.number ≡ 0 → CanFill rs es gs bs d n before.types before.left
+  child_there h z = can.can z h
 
   pub child_falls : (t : ℕ) → 2 * before.left + 1 ≡ t → 2 * before.left < t
   child_falls t e = omega arith
 
-pub child_filled : (rs : List Record) (es es' : Table) (gs gs' bs bs' : List ℕ) (d l n : ℕ) (before r : Progress) → not (eqb before.number 0) ≡ false
+pub child_filled : (rs : List Record) (es es' : Table) (gs gs' bs bs' : List ℕ) (d l n : ℕ) (before r : Progress) → before.number ≡ 0
     → Fills rs es es' gs gs' bs bs' d l n before.types before.left r → FillsChild rs es es' gs gs' bs bs' d l n before r
-child_filled rs es es' gs gs' bs bs' d l n before r z f = record { stays = λ h. absurd (h (no_fault before.number z)); goes = λ _. f; kept = f.kept; less = f.less; room = f.room }
+child_filled rs es es' gs gs' bs bs' d l n before r z f = record { stays = λ h. absurd (h z); goes = λ _. f; kept = f.kept; less = f.less; room = f.room }
 
 -- Before the first child, after it, after the second, and after the third.
 module _ {rs : List Record} {es : Table} {gs bs : List ℕ} {d n types left : ℕ} where

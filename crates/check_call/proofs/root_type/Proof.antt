@@ -7,13 +7,13 @@ use Rattle.check_call.proofs.root_type.Tie as tie
 pub root_type_spec : {M : Type 1} → statement M
 root_type_spec =
     tie.close (tie.spec
-    (λ c κs. search (checking, rules))  -- get16-requires
-    (λ c. search (checking, rules))  -- cast-end
-    (λ c. search (checking, rules))  -- mul-end
-    (λ c. search (checking, rules))  -- add-end
-    (λ c. search (checking, rules))  -- sub-get
-    (λ c. search (checking, rules))  -- part-get-start
-    (λ c. search (checking, rules))  -- part-get-end
-    (λ c κs. search (checking, rules))  -- get-requires
+    (λ c κs. search (checking, rules))  -- get16-types-requires
+    (λ c. search (checking, rules))  -- overflow_cast-end
+    (λ c. search (checking, rules))  -- overflow_mul-end
+    (λ c. search (checking, rules))  -- overflow_add-end
+    (λ c. search (checking, rules))  -- slice_bounds-get-count
+    (λ c. search (checking, rules))  -- slice_bounds-get-start
+    (λ c. search (checking, rules))  -- slice_bounds-get-end
+    (λ c κs. search (checking, rules))  -- get-root-requires
     (λ c. search (checking, rules))  -- returns
     )

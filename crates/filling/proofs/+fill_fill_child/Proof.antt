@@ -3,7 +3,6 @@
 -- `come_third`), which the needs after it cite.
 use Prim.Native.Nat.{ℕ, ◌+◌, ◌*◌, ◌<◌}
 use mathlib.Core.List.{List}
-use mathlib.Core.Logic.{⊎_elim}
 use mathlib.Core.Path.{◌∙◌}
 use borrow.Author.Rules.{rules}
 use borrow.Fn.Kinds.{In}
@@ -22,6 +21,7 @@ use Rattle.filling.proofs.+fill_fill_child.Lts-fill as fill-lts
 use Rattle.filling.proofs.fill_child.Reads as fill-child
 use Rattle.filling.proofs.fill_child.Kinds as fill-child-kinds
 use Rattle.filling.proofs.+fill_fill_child.Lts-fill_child as fill-child-lts
+use Rattle.filling.proofs.+fill_fill_child.Lts-fill_child.{then-n-eq0-via-then-n-eq0, then-n-eq0-via-else-n-eq0+then-before-ne0}
 use Rattle.filling.proofs.settle.Reads as settle-reads
 use Rattle.typing.proofs.first_child.Reads as first-child-reads
 use Rattle.typing.proofs.second_child.Reads as second-child-reads
@@ -56,13 +56,13 @@ fill_child_claims t = (fill_below t, fill.Post)
 -- The places after the trees of the three children, and from each the one before it.
 module _ (t : ℕ) where
   abbrev First : Type 0
-  First = fill-lts.After-fill-child (fill_claims t) (fill_at t) fill.Post
+  First = fill-lts.After-fill_child-first (fill_claims t) (fill_at t) fill.Post
 
   abbrev Second : Type 0
-  Second = fill-lts.After-fill-child2 (fill_claims t) (fill_at t) fill.Post
+  Second = fill-lts.After-fill_child-second (fill_claims t) (fill_at t) fill.Post
 
   abbrev Third : Type 0
-  Third = fill-lts.After-fill-child3 (fill_claims t) (fill_at t) fill.Post
+  Third = fill-lts.After-fill_child-third (fill_claims t) (fill_at t) fill.Post
 
   abbrev first_of : Second → First
   first_of c = c.before.before.before.before.before.before.before.before.before.before.before.before.before.before
@@ -73,72 +73,75 @@ module _ (t : ℕ) where
   -- How far the walk has come there.
   abbrev ComeTo : First → Table → List ℕ → List ℕ → (List Record → ℕ → ℕ) → Progress → Type 0
   ComeTo c es gs bs child r =
-      let a = c.before.before.before.before.before.before.before.before.before.before.before.before.before.args in
+      let a = c.args in
       let rs = records_in a.records.now in
-      Come rs (entries_in a.table.now) a.given.now a.binders.now a.depth a.n a.types a.left es gs bs (child rs a.n) c.fill-child.result.ty r
+      Come rs (entries_in a.table.now) a.given.now a.binders.now a.depth a.n a.types a.left es gs bs (child rs a.n) c.fill_child-first.result.ty r
 
-  come_first : (c : First) → let w = c.fill-child.new.1.1.1 in ComeTo c (entries_in w.1.1.0) w.1.1.1.0 w.0 second_of c.fill-child.result
+  come_first : (c : First) → let w = c.fill_child-first.new in ComeTo c (entries_in w.table) w.given w.binders second_of c.fill_child-first.result
   come_first c =
-      let entering = c.before.before.before.before.before.before.before.first-child in
-      let kept = c.fill-child.auto.1.1.1 in
-      first_come c.before.before.before.before.before.before.before.before.before.before.before.before.before.requires.1 entering.ensures entering.auto.1.0 c.fill-child.ensures kept.1.1.1.0 kept.0
+      let entering = c.first_child-c in
+      let kept = c.fill_child-first.auto in
+      first_come c.requires.1 entering.ensures entering.auto.binders c.fill_child-first.ensures kept.given kept.binders
 
-  come_second : (c : Second) → let w = c.fill-child2.new.1.1.1 in ComeTo (first_of c) (entries_in w.1.1.0) w.1.1.1.0 w.0 third_of c.fill-child2.result
+  come_second : (c : Second) → let w = c.fill_child-second.new in ComeTo (first_of c) (entries_in w.table) w.given w.binders third_of c.fill_child-second.result
   come_second c =
-      let entering = c.before.before.before.before.before.before.second-child in
-      let kept = c.fill-child2.auto.1.1.1 in
-      second_come (come_first (first_of c)) entering.ensures entering.auto.1.0 c.fill-child2.ensures kept.1.1.1.0 kept.0
+      let entering = c.second_child-s in
+      let kept = c.fill_child-second.auto in
+      second_come (come_first (first_of c)) entering.ensures entering.auto.binders c.fill_child-second.ensures kept.given kept.binders
 
-  come_third : (c : Third) → let w = c.fill-child3.new.1.1.1 in
-      ComeTo (first_of (second_of_lem c)) (entries_in w.1.1.0) w.1.1.1.0 w.0 (λ rs n. next_of rs (third_of rs n)) c.fill-child3.result
+  come_third : (c : Third) → let w = c.fill_child-third.new in
+      ComeTo (first_of (second_of_lem c)) (entries_in w.table) w.given w.binders (λ rs n. next_of rs (third_of rs n)) c.fill_child-third.result
   come_third c =
-      let kept = c.fill-child3.auto.1.1.1 in
-      third_come (come_second (second_of_lem c)) (first_of (second_of_lem c)).before.before.before.before.third-child.ensures c.fill-child3.ensures kept.1.1.1.0 kept.0
+      let kept = c.fill_child-third.auto in
+      third_come (come_second (second_of_lem c)) (first_of (second_of_lem c)).third_child-e.ensures c.fill_child-third.ensures kept.given kept.binders
 
-pub +fill-fill-child-spec : {M : Type 1} → statement M
-+fill-fill-child-spec = close μ_fill μ_fill_child
+pub +fill_fill_child_spec : {M : Type 1} → statement M
++fill_fill_child_spec = close μ_fill μ_fill_child
     (λ t. fill-lts.spec (fill_claims t) (fill_at t) fill.Post
-    (λ c. search (one_left, rules))  -- sub-t17
-    (λ c κs. come_enter (entered _ _ _ _ _ _ _ _ c.before.before.before.before.before.requires.1))  -- first-child-requires
-    (λ c κs. c.before.before.before.before.before.before.before.before.requires.1.here)  -- third-child-requires
-    (λ c κs. (first_falls c.before.before.before.before.before.before.before.before.before.before.before.before.requires.1 c.before.before.before.before.before.before.before.before.before.before.before.before.requires.0, first_asks c.before.before.before.before.before.before.before.before.before.before.before.before.requires.1 c.before.before.before.before.before.before.first-child.ensures (search rules)))  -- fill-child-requires
-    (λ c κs. come_enter (come_first t c.before.before.before.before.before.before.before))  -- second-child-requires
+    (λ c. search (one_left, rules))  -- overflow_sub-entered
+    (λ c κs. come_enter (entered _ _ _ _ _ _ _ _ c.requires.1))  -- first_child-c-requires
+    (λ c κs. c.requires.1.here)  -- third_child-e-requires
+    (λ c κs. (first_falls c.requires.1 c.requires.0, first_asks c.requires.1 c.first_child-c.ensures (search rules)))  -- fill_child-first-requires
+    (λ c κs. come_enter (come_first t c.before.before.before.before.before.before.before))  -- second_child-s-requires
     (λ c κs.
     let f = c.before.before.before.before.before.before.before.before.before.before.before.before.before in
-    (later_falls (come_first t f) f.before.before.before.before.before.before.before.before.before.before.before.before.before.requires.0, second_asks (come_first t f) c.before.before.before.before.before.second-child.ensures (search rules)))  -- fill-child-requires-2
+    (later_falls (come_first t f) f.requires.0, second_asks (come_first t f) c.second_child-s.ensures (search rules)))  -- fill_child-second-requires
     (λ c κs.
     let s = c.before.before.before.before.before.before.before.before.before in
     let f = first_of t s in
-    (later_falls (come_second t s) f.before.before.before.before.before.before.before.before.before.before.before.before.before.pre.0, third_asks (come_second t s) f.before.before.before.before.third-child.ensures))  -- fill-child-requires-3
-    (λ c. (come_third t c.before.before.before.before.before.before.before.before).binders)  -- same-length
+    (later_falls (come_second t s) f.requires.0, third_asks (come_second t s) f.third_child-e.ensures))  -- fill_child-third-requires
+    (λ c. (come_third t c.before.before.before.before.before.before.before.before).binders)  -- shape_of-binders-then-third-ne0
     (λ c.
     let d = c.before.before.before.before.before.before.before.before in
     let s = second_of_lem t d in
-    d.fill-child3.auto.1.1.1.1.1.0 ∙ s.fill-child2.kept.1.1.1.1.1.0 ∙ (first_of t s).fill-child.kept.1.1.1.1.1.0)  -- same-length-2
-    (λ c. (come_third t c.before.before.before.before.before.before.before.before).given)  -- same-length-3
+    d.fill_child-third.auto.table ∙ s.fill_child-second.auto.table ∙ (first_of t s).fill_child-first.auto.table)  -- shape_of-table-then-third-ne0
+    (λ c. (come_third t c.before.before.before.before.before.before.before.before).given)  -- shape_of-given-then-third-ne0
     (λ c.
     let d = c.before.before.before.before.before.before.before.before in
     let s = second_of_lem t d in
     let f = first_of t s in
-    fills_stopped (come_third t d) (come_second t s) (come_first t f) f.before.before.before.before.before.before.before.first-child.ensures f.fill-child.ensures s.before.before.before.before.before.before.second-child.ensures s.fill-child2.ensures f.before.before.before.before.third-child.ensures d.fill-child3.ensures c.if1.taken)  -- returns
-    (λ c κs. come_settle (come_third t c.before.before.before.before.before.before.before.before.before.before.before) _ (search rules))  -- settle-requires
-    (λ c. (come_third t c.before.before.before.before.before.before.before.before.before.before.before.before.before.before.before.before).binders)  -- same-length-4
+    fills_stopped (come_third t d) (come_second t s) (come_first t f) f.first_child-c.ensures f.fill_child-first.ensures s.second_child-s.ensures s.fill_child-second.ensures f.third_child-e.ensures d.fill_child-third.ensures c.if-third-ne0.true)  -- returns-then-third-ne0
+    (λ c κs. come_settle (come_third t c.before.before.before.before.before.before.before.before.before.before) _ (search rules))  -- settle-requires
+    (λ c. (come_third t c.before.before.before.before.before.before.before.before.before.before.before.before.before.before.before).binders)  -- shape_of-binders
     (λ c.
-    let d = c.before.before.before.before.before.before.before.before.before.before.before.before.before.before.before.before in
+    let d = c.before.before.before.before.before.before.before.before.before.before.before.before.before.before.before in
     let s = second_of_lem t d in
-    c.before.before.before.before.settle.auto.1.1.1.1.1.0 ∙ d.fill-child3.auto.1.1.1.1.1.0 ∙ s.fill-child2.kept.1.1.1.1.1.0 ∙ (first_of t s).fill-child.kept.1.1.1.1.1.0)  -- same-length-5
-    (λ c. c.before.before.before.before.settle.auto.1.1.1.1.1.1.0 ∙ (come_third t c.before.before.before.before.before.before.before.before.before.before.before.before.before.before.before.before).given)  -- same-length-6
+    c.settle.auto.table ∙ d.fill_child-third.auto.table ∙ s.fill_child-second.auto.table ∙ (first_of t s).fill_child-first.auto.table)  -- shape_of-table
+    (λ c. c.settle.auto.given ∙ (come_third t c.before.before.before.before.before.before.before.before.before.before.before.before.before.before.before).given)  -- shape_of-given
     (λ c.
-    let d = c.before.before.before.before.before.before.before.before.before.before.before.before.before.before.before.before in
+    let d = c.before.before.before.before.before.before.before.before.before.before.before.before.before.before.before in
     let s = second_of_lem t d in
     let f = first_of t s in
-    fills_settled (come_third t d) (come_second t s) (come_first t f) f.before.before.before.before.before.before.before.first-child.ensures f.fill-child.ensures s.before.before.before.before.before.before.second-child.ensures s.fill-child2.ensures f.before.before.before.before.third-child.ensures d.fill-child3.ensures c.before.before.before.before.before.before.before.before.if1.false c.before.before.before.before.settle.ensures)  -- returns-2
+    fills_settled (come_third t d) (come_second t s) (come_first t f) f.first_child-c.ensures f.fill_child-first.ensures s.second_child-s.ensures s.fill_child-second.ensures f.third_child-e.ensures d.fill_child-third.ensures c.if-third-ne0.false c.settle.ensures)  -- returns
     )
     (λ t. fill-child-lts.spec (fill_child_claims t) (fill_child_at t) fill-child.Post
-    (λ c. ⊎_elim (λ w. child_none _ _ _ _ _ _ _ _ c.before.before.before.before.before.requires.1 w.taken) (λ w. child_after_fault _ _ _ _ _ _ _ _ c.before.before.before.before.before.requires.1 w.2.taken) c.if1.branch)  -- returns
-    (λ c κs. (search (filling, rules), child_there _ _ _ _ _ 0 _ _ c.before.before.before.before.before.before.before.before.before.before.requires.1 c.before.before.before.before.before.if1.false (search rules)))  -- fill-requires
-    (λ c. search rules)  -- same-length
-    (λ c. search rules)  -- same-length-2
-    (λ c. search rules)  -- same-length-3
-    (λ c. search (filling, rules))  -- returns-2
+    (λ c. elim c.then-n-eq0.branch [
+      | then-n-eq0-via-then-n-eq0 w ↦ child_none _ _ _ _ _ _ _ _ c.requires.1 w.if-n-eq0.true
+      | then-n-eq0-via-else-n-eq0+then-before-ne0 w ↦ child_after_fault _ _ _ _ _ _ _ _ c.requires.1 w.if-before-ne0.true
+    ])  -- returns-then-n-eq0
+    (λ c κs. (search (filling, rules), child_there _ _ _ _ _ 0 _ _ c.requires.1 c.if-n-eq0.false (search rules)))  -- fill-requires
+    (λ c. search rules)  -- shape_of-binders
+    (λ c. search rules)  -- shape_of-table
+    (λ c. search rules)  -- shape_of-given
+    (λ c. search (filling, rules))  -- returns
     )
