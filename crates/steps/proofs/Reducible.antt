@@ -2,7 +2,7 @@
 use Prim.Native.Nat.{ℕ}
 use mathlib.Core.Bool.{false}
 use mathlib.Core.List.{List, [], ◌∷◌}
-use mathlib.Core.Path.{◌≡◌, sym, ap, ◌∙◌}
+use mathlib.Core.Path.{◌≡◌, sym, ap, subst, ◌∙◌}
 use lib.Dec.{T}
 use Rattle.rules.specs.Kinds.{Ternary, ternary₃}
 use Rattle.rules.specs.Terms.{Fields, Term, ternary, root_kind}
@@ -35,7 +35,7 @@ module _ (types : Table) (rs : List Record) (z : Focus) where
   pub open_reducible : (k : Ternary) (f : Fields) (s e : Term) (C : Context) (q whole : Term) → Held types rs z 0 (first₃ k f s e ∷ C) q whole → level_at 0 C ≡ 0
       → Ready 0 (ternary k f q s e) → T (contracts 0 (ternary₃ k)) → Reducible types C (ternary k f q s e) whole
   unfolding plug Evaluation
-  open_reducible k f s e C q whole h l r c = record { evaluation = h.evaluation.1; same = h.same; typed = h.typed; ready = rw l r; contracted = rw l c }
+  open_reducible k f s e C q whole h l r c = record { evaluation = h.evaluation.1; same = h.same; typed = h.typed; ready = rw l r; contracted = subst (λ n. T (contracts n (ternary₃ k))) (sym l) c }
 
 module _ (types : Table) (C : Context) (t whole : Term) (h : Reducible types C t whole) where
   abbrev pub contraction_of : (m : Next) × Contraction types (level_at 0 C) m.event.rule m.event.replaced t m.term

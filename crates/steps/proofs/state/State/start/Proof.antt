@@ -7,8 +7,8 @@ use Rattle.steps.proofs.state.State.start.Tie as tie
 pub start_spec : {M : Type 1} → statement M
 start_spec =
     tie.close (tie.spec
-    (λ c. search (starting, rules))  -- sub-r
+    (λ c. search (starting, rules))  -- overflow_sub-r
     (λ c κs. search (starting, rules))  -- load-requires
-    (λ c. search (starting, rules))  -- same-length
+    (λ c. search (starting, rules))  -- shape_of-work
     (λ c. search (starting, rules))  -- returns
     )

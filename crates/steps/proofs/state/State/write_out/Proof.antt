@@ -7,11 +7,11 @@ use Rattle.steps.proofs.state.State.write_out.Tie as tie
 pub write_out_spec : {M : Type 1} → statement M
 write_out_spec =
     tie.close (tie.spec
-    (λ c κs. search (putting_out, rules))  -- settle-requires
-    (λ c κs. search (putting_out, rules))  -- close-all-requires
-    (λ c. search out_length_lem)  -- cast-write-program
-    (λ c κs. search (putting_out, rules))  -- write-program-requires
-    (λ c. search (putting_out, rules))  -- same-length
-    (λ c. search (putting_out, rules))  -- same-length-2
+    (λ c κs. search (putting_out, rules))  -- settle-z-requires
+    (λ c κs. search (putting_out, rules))  -- close_all-whole-requires
+    (λ c. search out_length_lem)  -- overflow_cast-whole
+    (λ c κs. search (putting_out, rules))  -- write_program-requires
+    (λ c. search (putting_out, rules))  -- shape_of-work
+    (λ c. search (putting_out, rules))  -- shape_of-out
     (λ c. search (putting_out, rules))  -- returns
     )
