@@ -7,11 +7,11 @@ use Rattle.running.proofs.finish.Tie as tie
 pub finish_spec : {M : Type 1} → statement M
 finish_spec =
     tie.close (tie.spec
-    (λ c κs. search (finishing, rules))  -- run-steps-requires
-    (λ c κs. search (finishing, rules))  -- ending-of-requires
-    (λ c κs. search (finishing, rules))  -- write-out-requires
-    (λ c. search (finishing, rules))  -- cast-t17
-    (λ c. search (finishing, rules))  -- same-length
-    (λ c. search (finishing, rules))  -- same-length-2
+    (λ c κs. search (finishing, rules))  -- run_steps-halted-requires
+    (λ c κs. search (finishing, rules))  -- ending_of-ending-requires
+    (λ c κs. search (finishing, rules))  -- write_out-written-requires
+    (λ c. search (finishing, rules))  -- overflow_cast-result
+    (λ c. search (finishing, rules))  -- shape_of-work
+    (λ c. search (finishing, rules))  -- shape_of-output
     (λ c. search (finishing, rules))  -- returns
     )

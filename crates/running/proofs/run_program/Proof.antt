@@ -7,20 +7,20 @@ use Rattle.running.proofs.run_program.Tie as tie
 pub run_program_spec : {M : Type 1} → statement M
 run_program_spec =
     tie.close (tie.spec
-    (λ c κs. search (running_programs, rules))  -- get16-requires
-    (λ c κs. search (running_programs, rules))  -- get16-requires-2
-    (λ c. search (running_programs, rules))  -- cast-end
-    (λ c. search (running_programs, rules))  -- mul-end
-    (λ c. search (running_programs, rules))  -- add-end
-    (λ c. search (running_programs, rules))  -- sub-start
-    (λ c. search (running_programs, rules))  -- part-start-start
-    (λ c. search (running_programs, rules))  -- part-start-end
-    (λ c κs. search (running_programs, rules))  -- start-requires
-    (λ c. search (running_programs, rules))  -- sub-finish
-    (λ c. search (running_programs, rules))  -- part-finish-start
-    (λ c. search (running_programs, rules))  -- part-finish-end
+    (λ c κs. search (running_programs, rules))  -- get16-types-requires
+    (λ c κs. search (running_programs, rules))  -- get16-count-requires
+    (λ c. search (running_programs, rules))  -- overflow_cast-end
+    (λ c. search (running_programs, rules))  -- overflow_mul-end
+    (λ c. search (running_programs, rules))  -- overflow_add-end
+    (λ c. search (running_programs, rules))  -- slice_bounds-start-count
+    (λ c. search (running_programs, rules))  -- slice_bounds-start-start
+    (λ c. search (running_programs, rules))  -- slice_bounds-start-end
+    (λ c κs. search (running_programs, rules))  -- start-start-requires
+    (λ c. search (running_programs, rules))  -- slice_bounds-finish-count
+    (λ c. search (running_programs, rules))  -- slice_bounds-finish-start
+    (λ c. search (running_programs, rules))  -- slice_bounds-finish-end
     (λ c κs. search (running_programs, rules))  -- finish-requires
-    (λ c. search (running_programs, rules))  -- same-length
-    (λ c. search (running_programs, rules))  -- same-length-2
+    (λ c. search (running_programs, rules))  -- shape_of-output
+    (λ c. search (running_programs, rules))  -- shape_of-work
     (λ c. search (running_programs, rules))  -- returns
     )
