@@ -8,32 +8,32 @@ use Rattle.infer_call.proofs.type_with.Tie as tie
 pub type_with_spec : {M : Type 1} → statement M
 type_with_spec =
     tie.close (tie.spec
-    (λ c κs. search (parts, rules))  -- get16-requires
-    (λ c κs. search (parts, rules))  -- get16-requires-2
-    (λ c. search (parts, rules))  -- cast-end
-    (λ c. search (parts, rules))  -- mul-end
-    (λ c. search (parts, rules))  -- add-end
-    (λ c. search (parts, rules))  -- cast-last
-    (λ c. search (parts, rules))  -- sub-copy-bytes
-    (λ c. search (parts, rules))  -- part-copy-bytes-start
-    (λ c. search (parts, rules))  -- part-copy-bytes-end
-    (λ c κs. search (parts, rules))  -- copy-bytes-requires
-    (λ c. search (parts, rules))  -- sub-fill-all
-    (λ c. search (parts, rules))  -- part-fill-all-start
-    (λ c. search (parts, rules))  -- part-fill-all-end
-    (λ c. search (parts, rules))  -- slice-relend-prefix-fill-all
-    (λ c. search (parts, rules))  -- slice-aggregate-fill-all
-    (λ c κs. search (parts, rules))  -- fill-all-requires
+    (λ c κs. search (parts, rules))  -- get16-types-requires
+    (λ c κs. search (parts, rules))  -- get16-count-requires
+    (λ c. search (parts, rules))  -- overflow_cast-end
+    (λ c. search (parts, rules))  -- overflow_mul-end
+    (λ c. search (parts, rules))  -- overflow_add-end
+    (λ c. search (parts, rules))  -- overflow_cast-last
+    (λ c. search (parts, rules))  -- slice_bounds-copy_bytes-count
+    (λ c. search (parts, rules))  -- slice_bounds-copy_bytes-start
+    (λ c. search (parts, rules))  -- slice_bounds-copy_bytes-end
+    (λ c κs. search (parts, rules))  -- copy_bytes-requires
+    (λ c. search (parts, rules))  -- slice_bounds-fill_all-count
+    (λ c. search (parts, rules))  -- slice_bounds-fill_all-start
+    (λ c. search (parts, rules))  -- slice_bounds-fill_all-end
+    (λ c. search (parts, rules))  -- slice_bounds-fill_all-end-2
+    (λ c. search (parts, rules))  -- slice_bounds-fill_all-end-3
+    (λ c κs. search (parts, rules))  -- fill_all-done-requires
     (λ c κs. search (parts, rules))  -- refusing-requires
-    (λ c. search (parts, rules))  -- same-length
-    (λ c. search (parts, rules))  -- same-length-2
-    (λ c. search (type_faulty, rules, c.before.before.before.before.before.before.before.before.before.before.before.before.before.before.before.before.before.before.before.before.before.before.before.requires))  -- returns
+    (λ c. search (parts, rules))  -- shape_of-table-then-done-ne0
+    (λ c. search (parts, rules))  -- shape_of-given-then-done-ne0
+    (λ c. search (type_faulty, rules, c.requires))  -- returns-then-done-ne0
     (λ c κs.
-    let filled = c.before.before.before.before.before.before.before.before.before.before.fill-all in
-    can_write _ _ _ _ _ c.before.before.before.before.before.before.before.before.before.before.before.before.before.before.before.before.before.before.before.before.before.before.before.before.before.before.requires _ _ c.before.before.before.before.before.before.before.before.before.before.before.before.before.before.before.before.before.before.before.before.get16.ensures c.before.before.before.before.before.before.before.before.before.before.before.before.before.before.before.before.before.before.before.get162.ensures _ c.before.before.before.before.before.before.before.before.before.before.before.before.before.before.before.before.copy-bytes.ensures _ _ _ filled.ensures (search rules) filled.auto.1.1.0 filled.auto.1.1.1.1.0)  -- write-filled-requires
-    (λ c. search (parts, rules))  -- same-length-3
-    (λ c. search (parts, rules))  -- same-length-4
-    (λ c. search (parts, rules))  -- same-length-5
-    (λ c. search (parts, rules))  -- same-length-6
-    (λ c. search (parts, rules))  -- returns-2
+    let filled = c.fill_all-done in
+    can_write _ _ _ _ _ c.requires _ _ c.get16-types.ensures c.get16-count.ensures _ c.copy_bytes.ensures _ _ _ filled.ensures (search rules) filled.auto.table filled.auto.given)  -- write_filled-requires
+    (λ c. search (parts, rules))  -- shape_of-output
+    (λ c. search (parts, rules))  -- shape_of-work
+    (λ c. search (parts, rules))  -- shape_of-table
+    (λ c. search (parts, rules))  -- shape_of-given
+    (λ c. search (parts, rules))  -- returns
     )
