@@ -1,7 +1,8 @@
 // Reads an input, from standard input or a file: more than any program has, so that a longer input too is refused by its length.
 #![tactic(auto)]
 
-ghost use Rattle.std.specs.Prelude.{◌≤◌, IfOk};
+ghost use Rattle.std.specs.Prelude.{◌<◌, ◌≤◌, IfOk, take};
+ghost use Rattle.std.specs.Io.KnownBytes.{Consumes, IsAtEnd};
 
 use std::fs::File;
 use std::io::{self, Read};
@@ -10,9 +11,12 @@ use std::rt::Files;
 // The room for an input, which is 4 bytes of fuel and a program, of 4 + 6 * 256 + 16 * 2048 bytes at most.
 pub const INPUT: usize = 65536;
 
-// Reads until the room is full or the input ends, and answers how many bytes it put at the start of the room.
+// Reads until the room is full or the input ends, and answers how many bytes it put at the start of the room. The input has lost these bytes, and
+// has none left where the room is not full.
 pub fn read_input<R: Read>(from: &mut R, room: &mut [u8; INPUT]) -> io::Result<usize>
-    ensures { IfOk result (λ n. n ≤ 65536) }
+    ensures fits { IfOk result (λ n. n ≤ 65536) }
+    ensures bytes { IfOk result (λ n. Consumes (R.remaining from.old) (R.remaining from.new) (take n room.new)) }
+    ensures whole { IfOk result (λ n. n < 65536 → IsAtEnd (R.remaining from.new)) }
 {
     let mut done = 0;
     for _ in 0..INPUT {

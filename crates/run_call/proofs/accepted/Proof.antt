@@ -7,10 +7,10 @@ use Rattle.run_call.proofs.accepted.Tie as tie
 pub accepted_spec : {M : Type 1} → statement M
 accepted_spec =
     tie.close (tie.spec
-    (λ c κs. search (accepting, rules))  -- root-type-requires
-    (λ c κs. search (accepting, rules))  -- run-program-requires
+    (λ c κs. search (accepting, rules))  -- root_type-root-requires
+    (λ c κs. search (accepting, rules))  -- run_program-done-requires
     (λ c. search (accepting, rules))  -- cast-t
-    (λ c. search (accepting, rules))  -- same-length
-    (λ c. search (accepting, rules))  -- same-length-2
+    (λ c. search (accepting, rules))  -- shape_of-output
+    (λ c. search (accepting, rules))  -- shape_of-work
     (λ c. search (accepting, rules))  -- returns
     )

@@ -7,17 +7,17 @@ use Rattle.run_call.proofs.run.Tie as tie
 pub run_spec : {M : Type 1} → statement M
 run_spec =
     tie.close (tie.spec
-    (λ c κs. search (answering, rules))  -- buffers-refusal-requires
+    (λ c κs. search (answering, rules))  -- buffers_refusal-lent-requires
     (λ c κs. search (answering, rules))  -- refusing-requires
-    (λ c. search (answering, rules))  -- returns
-    (λ c κs. search (answering, rules))  -- first-edition-requires
-    (λ c κs. search (answering, rules))  -- program-refusal-requires
-    (λ c κs. search (answering, rules))  -- refusing-requires-2
-    (λ c. search (answering, rules))  -- returns-2
-    (λ c. search (answering, rules))  -- slice-relend-prefix-accepted
-    (λ c. search (answering, rules))  -- slice-aggregate-accepted
+    (λ c. search (answering, rules))  -- returns-then-lent-ne0
+    (λ c κs. search (answering, rules))  -- first_edition-requires
+    (λ c κs. search (answering, rules))  -- program_refusal-verdict-requires
+    (λ c κs. search (answering, rules))  -- refusing-requires-then-number-ne0
+    (λ c. search (answering, rules))  -- returns-then-number-ne0
+    (λ c. search (answering, rules))  -- slice_bounds-accepted-end
+    (λ c. search (answering, rules))  -- slice_bounds-accepted-end-2
     (λ c κs. search (answering, rules))  -- accepted-requires
-    (λ c. search (answering, rules))  -- same-length
-    (λ c. search (answering, rules))  -- same-length-2
-    (λ c. search (answering, rules))  -- returns-3
+    (λ c. search (answering, rules))  -- shape_of-output
+    (λ c. search (answering, rules))  -- shape_of-work
+    (λ c. search (answering, rules))  -- returns
     )
