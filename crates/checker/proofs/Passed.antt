@@ -1,4 +1,4 @@
--- What is known of a program whose layout is not refused; and the walk that comes after: `Walking-on` for search.
+-- What is known of a program whose layout is not refused; and the walk that comes after: `walking_on` for search.
 use Prim.Native.Nat.{ℕ, ◌+◌, ◌*◌, ◌-◌}
 use native.Mathlib.Omega.{arith}
 use mathlib.Core.Bool.{Bool, true, false}
@@ -78,4 +78,4 @@ module _ (edition : Edition) (p : List ℕ) (w : Verdict) where
   unfolding refusal_with type_fields_meant
   with_omitted t = t
 
-pub ruleset Walking-on = (layout_refused, layout_told, walk_told, with_given, with_omitted)
+pub ruleset walking_on = (layout_refused, layout_told, walk_told, with_given, with_omitted)
