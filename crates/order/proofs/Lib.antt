@@ -1,0 +1,24 @@
+-- What is true of the order of use, from types in full to whole runs, and what it is of small terms.
+pub mod Lists
+pub mod Numbers
+pub mod Full
+pub mod InFull
+pub mod Listed
+pub mod TableInFull
+pub mod Few
+pub mod Used
+pub mod Same
+pub mod Entries
+pub mod Retyped
+pub mod Alike
+pub mod AlikeBounds
+pub mod SameFields
+pub mod Forced
+pub mod Replaced
+pub mod Matches
+pub mod Steps
+pub mod Output
+pub mod Courses
+pub mod Programs
+pub mod Runs
+pub mod UseOrder
