@@ -53,6 +53,11 @@ module _ (types : Table) where
   different good [] h l = tt
   different good (x ∷ xs) (h, k) (n, _, l) = (same_number types good x xs h k ∙ n, different good xs k l)
 
+  -- Nothing of the entries' types is cut.
+  pub wholes : GoodEntries types → (xs : List ℕ) → All (NamesType types) xs → All Whole (map (in_full types) xs)
+  wholes good [] h = tt
+  wholes good (x ∷ xs) (h, k) = (whole_lem types good x h, wholes good xs k)
+
 in_map : {A B : Type 0} (P : A → Type 0) (Q : B → Type 0) (g : A → B) (xs : List A) → All P xs → All Q (map g xs) → All (λ x. P x × Q (g x)) xs
 in_map P Q g [] h k = tt
 in_map P Q g (x ∷ xs) (h, hs) (k, ks) = ((h, k), in_map P Q g xs hs ks)
@@ -100,12 +105,8 @@ module _ (types : Table) (good : GoodEntries types) (t : Term) (entries : All (N
   pub used_entries : All (NamesType types) (used types t)
   used_entries = needs.0
 
-  wholes : (xs : List ℕ) → All (NamesType types) xs → All Whole (map (in_full types) xs)
-  wholes [] h = tt
-  wholes (x ∷ xs) (h, k) = (whole_lem types good x h, wholes xs k)
-
   grown : GrowsAll [] in_order (map (in_full types) (types_named t))
-  grown = grows_all (map (in_full types) (types_named t)) [] (wholes (types_named t) entries) tt
+  grown = grows_all (map (in_full types) (types_named t)) [] (wholes types good (types_named t) entries) tt
 
   pub table_is : written_table types t ≡ table_of_full in_order
   table_is = table_full_lem types good (used types t) used_entries ∙ ap table_of_full needs.1

@@ -1,0 +1,96 @@
+-- The laws of `need` and of `need_field`: what has a number needs nothing; what has none needs its parts, left first, and gets the next. `needing` for
+-- search. Assumes nothing.
+use Prim.Native.Nat.{ℕ, ◌+◌, ◌<◌}
+use native.Mathlib.Omega.{arith}
+use mathlib.Core.List.{List}
+use mathlib.Core.Logic.{◌≢◌}
+use mathlib.Core.Path.{◌≡◌, refl, ap, sym, ◌∙◌, subst}
+use lib.Dec.{eqb, eqb→eq}
+use lib.ListN.{length, get_or, set}
+use mir.Syntax.{w16}
+use mir.Val.{Fits}
+use Rattle.rules.specs.Types.{Table, part_a, part_b}
+use Rattle.order.specs.Order.{needed}
+use Rattle.rules.proofs.General.{is_false}
+use Rattle.records.specs.Places.{Within, IsEntry}
+use Rattle.records.specs.declared.Entry.{Entry}
+use Rattle.order.proofs.InFull.{need_none}
+use Rattle.numbering.specs.Numbering.{Numbering, SomeNumbered, CanNeed, Needs, type_named}
+use Rattle.numbering.proofs.Needing.{lower, needed_old, seen_few, numbering_more}
+
+-- What is kept from need to need.
+module _ {types : Table} {x : ℕ} {new : List ℕ} {count : ℕ} {new' : List ℕ} {count' : ℕ} (n : Needs types x new count new' count') (s : SomeNumbered types new count) where
+  pub needs_on : SomeNumbered types new' count'
+  needs_on = record { good = s.good; few = s.few; seen = needed types x s.seen; numbering = n.is s.seen s.numbering }
+
+  pub next_fits : Fits w16 (count' + 1)
+  next_fits = let m = needs_on in omega (arith, m.numbering.counted, seen_few types m.good m.seen m.numbering.seen_is, m.few)
+
+module _ {types : Table} {x count : ℕ} {new : List ℕ} where
+  pub none_needs : x ≡ 0 → Needs types x new count new count
+  none_needs e = record { is = λ seen n. subst (λ y. Numbering types new count (needed types y seen)) (sym e) (subst (Numbering types new count) (sym (need_none 0 types seen)) n) }
+
+  module _ (c : CanNeed types x new count) where
+    pub old_needs : get_or new x 0 ≢ 0 → Needs types x new count new count
+    old_needs h = record { is = λ seen n. subst (Numbering types new count) (sym (needed_old types c.numbered.good x seen (omega (arith, h, n.each x c.low)))) n }
+
+    pub within : x ≢ 0 → Within types x
+    within h = record { some = omega (arith, h); most = c.low }
+
+    pub in_room : {new₁ : List ℕ} {count₁ : ℕ} → SomeNumbered types new₁ count₁ → x < length new₁
+    in_room s = omega (arith, c.low, s.numbering.room)
+
+    module _ (e : Entry) (i : IsEntry types x e) where
+      -- Its parts are earlier entries, and can be needed whatever was needed before.
+      module _ (h : x ≢ 0) where
+        lower_parts : (part_a types x < x) × (part_b types x < x)
+        lower_parts = lower types c.numbered.good x (omega (arith, h), c.low)
+
+        pub left_falls : (a : ℕ) → a ≡ e.a → {t : ℕ} → x ≡ t → a < t
+        left_falls a k m = omega (arith, k, m, ap (λ r. r.a) i.is, lower_parts.0)
+
+        pub right_falls : (b : ℕ) → b ≡ e.b → {t : ℕ} → x ≡ t → b < t
+        right_falls b k m = omega (arith, k, m, ap (λ r. r.b) i.is, lower_parts.1)
+
+        module _ {new₁ : List ℕ} {count₁ : ℕ} (s : SomeNumbered types new₁ count₁) where
+          pub left_part : (a : ℕ) → a ≡ e.a → CanNeed types a new₁ count₁
+          left_part a k = record { low = omega (arith, left_falls a k refl, c.low); numbered = s }
+
+          pub right_part : (b : ℕ) → b ≡ e.b → CanNeed types b new₁ count₁
+          right_part b k = record { low = omega (arith, right_falls b k refl, c.low); numbered = s }
+
+      pub all_needs : {new₁ : List ℕ} {count₁ : ℕ} {new₂ : List ℕ} {count₂ : ℕ} → x ≢ 0 → get_or new x 0 ≡ 0 → Needs types e.a new count new₁ count₁
+          → Needs types e.b new₁ count₁ new₂ count₂ → Needs types x new count (set new₂ x (count₂ + 1)) (count₂ + 1)
+      all_needs {new₁} {count₁} {new₂} {count₂} h z n k = record {
+        is = λ seen s. numbering_more types c.numbered.good x seen new₂ count₂ (omega (arith, h), c.low) (sym (s.each x c.low) ∙ z) s.seen_is
+            (subst (λ y. Numbering types new₂ count₂ (needed types y.b (needed types y.a seen))) i.is (k.is (needed types e.a seen) (n.is seen s)));
+      }
+
+pub ruleset needing = (needs_on, next_fits, none_needs, old_needs, within, in_room, left_falls, right_falls, left_part, right_part, all_needs)
+
+-- The type that a field names.
+pub names_type : (u x : ℕ) → u ≡ 2 → type_named u x ≡ x
+unfolding type_named
+names_type u x e = rw e
+
+pub names_none : (u x : ℕ) → u ≢ 2 → type_named u x ≡ 0
+unfolding type_named
+names_none u x n = rw (is_false (eqb u 2) (λ t. n (eqb→eq u 2 t)))
+
+module _ {types : Table} (u x : ℕ) {count : ℕ} {new : List ℕ} where
+  pub field_none : u ≢ 2 → Needs types (type_named u x) new count new count
+  field_none n = none_needs (names_none u x n)
+
+  pub field_can : u ≡ 2 → CanNeed types (type_named u x) new count → CanNeed types x new count
+  field_can e = subst (λ y. CanNeed types y new count) (names_type u x e)
+
+  pub field_room : u ≡ 2 → CanNeed types (type_named u x) new count → x < length new
+  field_room e c = in_room (field_can e c) c.numbered
+
+  pub field_old : u ≡ 2 → get_or new x 0 ≢ 0 → CanNeed types (type_named u x) new count → Needs types (type_named u x) new count new count
+  field_old e h c = subst (λ y. Needs types y new count new count) (sym (names_type u x e)) (old_needs (field_can e c) h)
+
+  pub field_needs : {new' : List ℕ} {count' : ℕ} → u ≡ 2 → Needs types x new count new' count' → Needs types (type_named u x) new count new' count'
+  field_needs {new'} {count'} e = subst (λ y. Needs types y new count new' count') (sym (names_type u x e))
+
+pub ruleset of_field = (field_none, field_can, field_room, field_old, field_needs)
