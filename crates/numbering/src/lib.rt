@@ -20,7 +20,7 @@ const NUMBERS: usize = 257;
 const TABLE: usize = 1536;
 
 // How a program was written: its length, and the type of its root, a number in the written table.
-#[derive(Drop)]
+#[derive(Clone, Copy)]
 pub struct Ordered {
     pub length: usize,
     pub root: u16,

@@ -21,4 +21,7 @@ pub mod Output
 pub mod Courses
 pub mod Programs
 pub mod Runs
+pub mod SameTypes
+pub mod Fillings
+pub mod Infers
 pub mod UseOrder

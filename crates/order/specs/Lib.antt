@@ -7,5 +7,6 @@ pub mod Order
 pub mod Alike
 pub mod RunInOrder
 pub mod WholeRun
+pub mod InferInOrder
 -- The order of use over types in full: what the proofs go through.
 pub mod OrderInFull
