@@ -14,5 +14,5 @@ entry_if_any_spec =
     | then-n-eq0-via-else-n-eq0+then-table-n w ↦ no_entry_beyond _ _ w.if-table-n.true
     ])  -- returns-then-n-eq0
     (λ c κs. search (reading, rules))  -- entry_no-requires
-    (λ c. search (reading, rules))  -- returns-then-n-eq0
+    (λ c. search (reading, rules))  -- returns
     )
