@@ -31,7 +31,7 @@ module _ (p out work : List ℕ) (r : InferAnswer) where
   inferred_refused number place e a = record {
     answer = a ∙ ap answer_of (sym e);
     output = ap (λ o. output_of o out) (sym e);
-    work_length_lem = refl;
+    work_length = refl;
     work_beyond = refl;
     work_refused = λ q h. refl;
     passes = λ A t e. output_answered first_edition p (length out) (length work) A t e (omega arith);
@@ -74,7 +74,7 @@ module _ (p out work : List ℕ) (r : InferAnswer) where
             record {
               answer = a.answer ∙ ap answer_of (sym by_program);
               output = a.output ∙ ap (λ o. output_of o out) (sym by_program);
-              work_length_lem = omega (arith, length-append part (drop work_needed work), length-drop work_needed work, lent_work (length out) (length work) b lent long);
+              work_length = omega (arith, length-append part (drop work_needed work), length-drop work_needed work, lent_work (length out) (length work) b lent long);
               work_beyond = drop_at part (drop work_needed work) work_needed l;
               work_refused = λ q h. ap (λ w. w ++ drop work_needed work) (a.faulted q (sym by_program ∙ h)) ∙ take-append-drop work_needed work;
               passes = λ A u h. output_answered first_edition p (length out) (length work) A u h (omega arith);

@@ -55,7 +55,7 @@ pub record Types (program out out' work work' : List ℕ) (r : InferAnswer) : Ty
 pub record Inferred (program out work : List ℕ) (r : InferAnswer) (out' work' : List ℕ) : Type 0 where
   pub answer : infer_meant r ≡ infer_answer first_edition program (length out) (length work)
   pub output : out' ≡ infer_output first_edition program out (length work)
-  pub work_length_lem : length work' ≡ length work
+  pub work_length : length work' ≡ length work
   pub work_beyond : drop work_needed work' ≡ drop work_needed work
   pub work_refused : (q : Refusal) → inference_lent first_edition program (length out) (length work) ≡ faulty q → work' ≡ work
   pub passes : (A : Table) (t : Term) → inference_lent first_edition program (length out) (length work) ≡ filled A t → Answered first_edition program A t

@@ -30,7 +30,7 @@ module _ (p : List ℕ) (fuel : ℕ) (out work : List ℕ) (r : RunAnswer) where
   ran_refused number place e a = record {
     answer = rw (e, run_answer) a;
     output = rw (e, run_output);
-    work_length_lem = refl;
+    work_length = refl;
     work_beyond = refl;
     work_refused = λ q h. refl;
     whole = λ z. absurd (never (sym e ∙ z));
@@ -72,7 +72,7 @@ module _ (p : List ℕ) (fuel : ℕ) (out work : List ℕ) (r : RunAnswer) where
             record {
               answer = rw (n, run_answer) a.answer;
               output = rw (n, run_output) a.output;
-              work_length_lem = omega (arith, length-append part (drop work_needed work), length-drop work_needed work, lent_work (length out) (length work) b lent long);
+              work_length = omega (arith, length-append part (drop work_needed work), length-drop work_needed work, lent_work (length out) (length work) b lent long);
               work_beyond = drop_at part (drop work_needed work) work_needed l;
               work_refused = λ q h. absurd (never (sym h ∙ n));
               whole = λ y. demand_3 first_edition (omega arith) p fuel out (length work) y;

@@ -22,7 +22,7 @@ pub record Accepted (program : List ℕ) (fuel : ℕ) (out out' : List ℕ) (r :
 pub record Ran (program : List ℕ) (fuel : ℕ) (out work : List ℕ) (r : RunAnswer) (out' work' : List ℕ) : Type 0 where
   pub answer : run_meant r ≡ run_answer first_edition program fuel (length out) (length work)
   pub output : out' ≡ run_output first_edition program fuel out (length work)
-  pub work_length_lem : length work' ≡ length work
+  pub work_length : length work' ≡ length work
   pub work_beyond : drop work_needed work' ≡ drop work_needed work
   pub work_refused : (q : Refusal) → run_refusal first_edition program (length out) (length work) ≡ some q → work' ≡ work
   pub whole : run_refusal first_edition program (length out) (length work) ≡ none → Demand3 first_edition program fuel out (length work)

@@ -17,11 +17,11 @@ alone_spec =
     tie.close (tie.spec invariant-loop decreases-loop
     (λ c κs. search (entering, rules))  -- entry_no-e-requires
     (λ c. search (entering, rules))  -- loop-m-init
-    (λ c κs. search (entering, rules))  -- entry_no-e-requires
+    (λ c κs. search (entering, rules))  -- entry_no-requires
     (λ c κs. search (entering, rules))  -- same_entry-requires
     (λ c. search (entering, rules))  -- returns-then-same_entry
     (λ c. search (entering, rules))  -- overflow_add-m
     (λ c. search (entering, rules))  -- loop-m-smaller
     (λ c. search (entering, rules))  -- loop-m-preserved
-    (λ c. search (entering, rules))  -- returns-then-same_entry
+    (λ c. search (entering, rules))  -- returns
     )

@@ -11,7 +11,7 @@ fields_ok_spec =
     (λ c. search (fielding, rules))  -- overflow_cast-edition
     (λ c κs. search (fielding, rules))  -- in_range-known-requires
     (λ c. search (fielding, rules))  -- overflow_cast-r
-    (λ c κs. search (fielding, rules))  -- in_range-known-requires
+    (λ c κs. search (fielding, rules))  -- in_range-requires
     (λ c κs. search (fielding, rules))  -- either-ty-requires
     (λ c κs. search (fielding, rules))  -- use_of_a-requires
     (λ c. search (fielding, rules))  -- overflow_cast-r-2

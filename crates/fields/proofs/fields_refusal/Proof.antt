@@ -30,5 +30,5 @@ fields_refusal_spec =
     (λ c. search (scanning, fielding, placing, rules))  -- loop-n-smaller
     (λ c. search (scanning, fielding, placing, rules))  -- loop-n-preserved
     (λ c κs. search (scanning, fielding, placing, rules))  -- no_refusal-requires
-    (λ c. search (scanning, fielding, placing, rules))  -- returns-then-not-fields_ok
+    (λ c. search (scanning, fielding, placing, rules))  -- returns
     )

@@ -20,5 +20,5 @@ insert_spec =
     (λ c. search rules)  -- offset_bounds-set-k-2
     (λ c. search rules)  -- bounds-set-k-2
     (λ c. search rules)  -- shape_of-set
-    (λ c. search (inserting, rules))  -- returns-then-word-bit-eq1
+    (λ c. search (inserting, rules))  -- returns
     )

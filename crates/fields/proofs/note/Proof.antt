@@ -16,5 +16,5 @@ note_spec =
     (λ c. search (noting, rules))  -- overflow_add-e
     (λ c κs. search (noting, rules))  -- insert-requires
     (λ c. search (noting, rules))  -- shape_of-seen
-    (λ c. search (noting, rules))  -- returns-then-not-kind_ok
+    (λ c. search (noting, rules))  -- returns
     )

@@ -27,5 +27,5 @@ omitted_refusal_spec =
     (λ c. search (scanning, placing, rules))  -- loop-n-smaller
     (λ c. search (scanning, placing, rules))  -- loop-n-preserved
     (λ c κs. search (scanning, placing, rules))  -- no_refusal-requires
-    (λ c. search (scanning, placing, rules))  -- returns-then-not-is_omitted
+    (λ c. search (scanning, placing, rules))  -- returns
     )

@@ -26,5 +26,5 @@ pairs_refusal_spec =
     (λ c. search (scanning, placing, rules))  -- loop-n-smaller
     (λ c. search (scanning, placing, rules))  -- loop-n-preserved
     (λ c κs. search (scanning, placing, rules))  -- no_refusal-requires
-    (λ c. search (scanning, placing, rules))  -- returns-then-not-entry_ok
+    (λ c. search (scanning, placing, rules))  -- returns
     )

@@ -33,5 +33,5 @@ set_refusal_spec =
     (λ c. search (scanning, noting, rules))  -- loop-n-preserved
     (λ c κs. search (scanning, noting, rules))  -- no_refusal-requires
     (λ c. search (scanning, noting, rules))  -- shape_of-seen
-    (λ c. search (scanning, noting, rules))  -- returns-then-not-note
+    (λ c. search (scanning, noting, rules))  -- returns
     )

@@ -16,5 +16,5 @@ binder_at_spec =
     (λ c. omega (arith, c.shared_slice_known-1.given (c.args.depth - 1 - c.args.i)))  -- overflow_cast-result
     (λ c. search (reading, rules))  -- overflow_cast-result-then-at-depth
     (λ c. search (reading, rules))  -- returns-then-at-depth
-    (λ c. search (reading, rules))  -- returns-then-at-depth
+    (λ c. search (reading, rules))  -- returns
     )

@@ -10,9 +10,9 @@ entry_if_any_spec =
     tie.close (tie.spec
     (λ c. search rules)  -- overflow_mul-n
     (λ c. elim c.then-n-eq0.branch [
-    | then-n-eq0-via-then-n-eq0 w ↦ zero_no_entry _ _ w.if-n-eq0.true
-    | then-n-eq0-via-else-n-eq0+then-table-n w ↦ no_entry_beyond _ _ w.if-table-n.true
+      | then-n-eq0-via-then-n-eq0 w ↦ zero_no_entry _ _ w.if-n-eq0.true
+      | then-n-eq0-via-else-n-eq0+then-table-n w ↦ no_entry_beyond _ _ w.if-table-n.true
     ])  -- returns-then-n-eq0
     (λ c κs. search (reading, rules))  -- entry_no-requires
-    (λ c. search (reading, rules))  -- returns-then-n-eq0
+    (λ c. search (reading, rules))  -- returns
     )

@@ -9,5 +9,5 @@ index_ok_spec =
     tie.close (tie.spec
     (λ c κs. search (indices, rules))  -- use_of_a-requires
     (λ c. search (indices, rules))  -- returns-then-use_of_a-eq1
-    (λ c. search (indices, rules))  -- returns-then-use_of_a-eq1
+    (λ c. search (indices, rules))  -- returns
     )

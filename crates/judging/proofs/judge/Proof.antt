@@ -14,5 +14,5 @@ judge_spec =
     (λ c. search (ordering, rules))  -- returns-then-not-level_ok
     (λ c κs. search (ordering, rules))  -- type_ok-requires
     (λ c. search (ordering, rules))  -- returns-then-not-type_ok
-    (λ c. search (ordering, rules))  -- returns-then-not-index_ok
+    (λ c. search (ordering, rules))  -- returns
     )

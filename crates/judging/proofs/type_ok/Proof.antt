@@ -36,7 +36,7 @@ type_ok_spec =
     (λ c. kind_type _ _ _ _ _ _ _ _ _ (ap kind_of c.in-8.is) (λ Γ g. c.is_code-in-8.ensures))  -- returns-in-8
     (λ c. match_type _ _ _ _ _ _ _ _ _ _ _ (search (a_match, rules)) c.entry_if_any-e.ensures c.match_children_ok.ensures c.pattern_ok.ensures c.both-in-9-to-14.ensures)  -- returns-in-9-to-14
     (λ c. kind_type _ _ _ _ _ _ _ _ _ (first_kind c.args.kind (λ a b. elim c.in_default.branch [
-    | in_default-via-then-kind-lt2 w ↦ omega arith
-    | in_default-via-else-kind-lt2+else-kind-lt15 w ↦ omega arith
+      | in_default-via-then-kind-lt2 w ↦ omega arith
+      | in_default-via-else-kind-lt2+else-kind-lt15 w ↦ omega arith
     ])) (λ Γ g. c.is_nat-in_default.ensures))  -- returns-in_default
     )

@@ -8,9 +8,9 @@ pub buffers_refusal_spec : {M : Type 1} → statement M
 buffers_refusal_spec =
     tie.close (tie.spec
     (λ c κs. search rules)  -- refuse-requires
+    (λ c. search (lengths, rules))  -- returns-then-output-lt-OUTPUT
+    (λ c κs. search rules)  -- refuse-requires-then-work-lt-WORK
+    (λ c. search (lengths, rules))  -- returns-then-work-lt-WORK
+    (λ c κs. search rules)  -- no_refusal-requires
     (λ c. search (lengths, rules))  -- returns
-    (λ c κs. search rules)  -- refuse-requires-2
-    (λ c. search (lengths, rules))  -- returns-2
-    (λ c κs. search rules)  -- no-refusal-requires
-    (λ c. search (lengths, rules))  -- returns-3
     )

@@ -11,15 +11,15 @@ success_spec =
     (λ c κs. search (reading, succeeding, rules))  -- get-r-requires
     (λ c. search (reading, succeeding, rules))  -- overflow_add-p
     (λ c κs. search (reading, succeeding, rules))  -- skip-argument-requires
-    (λ c. search (reading, succeeding, rules))  -- add-t10
+    (λ c. search (reading, succeeding, rules))  -- overflow_add-a
     (λ c κs. search (reading, succeeding, rules))  -- body_with-requires
-    (λ c. search (reading, succeeding, rules))  -- add-t13
-    (λ c κs. search (reading, succeeding, rules))  -- body_with_one-requires
+    (λ c. search (reading, succeeding, rules))  -- overflow_add-p-in-12
+    (λ c κs. search (reading, succeeding, rules))  -- body_with_tree-requires
     (λ c. search (reading, succeeding, rules))  -- overflow_add-p-in-13
     (λ c κs. search (reading, succeeding, rules))  -- opened_at-requires
+    (λ c κs. search (reading, succeeding, rules))  -- body_with_one-requires
+    (λ c. search (reading, succeeding, rules))  -- overflow_add-p-in-14
     (λ c κs. search (reading, succeeding, rules))  -- body_with_one-requires-in-14
-    (λ c. search (reading, succeeding, rules))  -- add-t17
-    (λ c κs. search (reading, succeeding, rules))  -- body-with-one-requires-3
     (λ c. search (reading, succeeding, rules))  -- returns-in-11
     (λ c. search (reading, succeeding, rules))  -- returns-in-12
     (λ c. search (reading, succeeding, rules))  -- returns-in-13

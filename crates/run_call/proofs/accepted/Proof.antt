@@ -9,7 +9,7 @@ accepted_spec =
     tie.close (tie.spec
     (λ c κs. search (accepting, rules))  -- root_type-root-requires
     (λ c κs. search (accepting, rules))  -- run_program-done-requires
-    (λ c. search (accepting, rules))  -- cast-t
+    (λ c. search (accepting, rules))  -- overflow_cast-result
     (λ c. search (accepting, rules))  -- shape_of-output
     (λ c. search (accepting, rules))  -- shape_of-work
     (λ c. search (accepting, rules))  -- returns

@@ -9,11 +9,11 @@ have_spec =
     tie.close (tie.spec
     (λ c κs. search (looking, rules))  -- larger-requires
     (λ c κs. search (looking, rules))  -- count_before-found-requires
-    (λ c. search (looking, rules))  -- add-t8
+    (λ c. search (looking, rules))  -- overflow_add-result
     (λ c. search (looking, rules))  -- shape_of-table-then-found-types
     (λ c. search (looking, rules))  -- returns-then-found-types
     (λ c κs. search (looking, rules))  -- put_entry-requires
-    (λ c. search (looking, rules))  -- add-t13
+    (λ c. search (looking, rules))  -- overflow_add-result-2
     (λ c. search (looking, rules))  -- overflow_add-result-3
     (λ c. search (looking, rules))  -- shape_of-table
     (λ c. search (looking, rules))  -- returns

@@ -7,7 +7,7 @@ use Rattle.typing.proofs.second_child.Tie as tie
 pub second_child_spec : {M : Type 1} → statement M
 second_child_spec =
     tie.close (tie.spec
-    (λ c κs. search (entering, rules))  -- read-requires
+    (λ c κs. search (entering, rules))  -- record_no-r-requires
     (λ c κs. search (entering, rules))  -- next_of-requires
     (λ c κs. search (entering, rules))  -- push_second-requires
     (λ c. search (entering, rules))  -- shape_of-binders

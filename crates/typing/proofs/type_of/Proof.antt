@@ -8,6 +8,6 @@ pub type_of_spec : {M : Type 1} → statement M
 type_of_spec =
     tie.close (tie.spec
     (λ c. search (reading, rules))  -- returns-then-n-eq0
-    (λ c κs. search (reading, rules))  -- read-requires
+    (λ c κs. search (reading, rules))  -- record_no-r-requires
     (λ c. search (reading, rules))  -- returns
     )

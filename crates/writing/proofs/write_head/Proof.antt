@@ -9,7 +9,7 @@ write_head_spec =
     tie.close (tie.spec
     (λ c κs. search rules)  -- get-r-requires
     (λ c κs. search rules)  -- children-children-requires
-    (λ c κs. search rules)  -- first-link-requires
+    (λ c κs. search rules)  -- link-requires
     (λ c. search rules)  -- overflow_sub-number
     (λ c. search rules)  -- overflow_cast-number
     (λ c κs. search rules)  -- put-requires

@@ -9,13 +9,13 @@ make_spec =
     tie.close (tie.spec
     (λ c. search (making, rules))  -- enum_known-plan
     (λ c κs. search (making, rules))  -- skip-end-requires
-    (λ c. search (making, rules))  -- sub-t14
+    (λ c. search (making, rules))  -- overflow_sub-result
     (λ c. search (making, rules))  -- enum_known-plan-in-Body-1
     (λ c κs. search (making, rules))  -- copy_replaced-c-requires
-    (λ c. search (making, rules))  -- sub-t17
+    (λ c. search (making, rules))  -- overflow_sub-result-in-Body
     (λ c. search (making, rules))  -- enum_known-plan-in-Made-1
     (λ c κs. search (making, rules))  -- copy_argument-end-requires
-    (λ c. search (making, rules))  -- sub-t20
+    (λ c. search (making, rules))  -- overflow_sub-result-in-Made
     (λ c. search (making, rules))  -- shape_of-w-in-Tree
     (λ c. search (making, rules))  -- returns-in-Tree
     (λ c. search (making, rules))  -- shape_of-w-in-Body

@@ -19,8 +19,8 @@ children_ok_spec =
     (λ c κs. search (chaining, placing, rules))  -- both-requires-then-count-eq2-2
     (λ c. search (chaining, placing, rules))  -- returns-then-count-eq2
     (λ c κs. last_in_chain _ _ _ _ _ c.next_of-e.ensures c.next_of-s.ensures c.record_no-r.ensures c.requires)  -- next_of-x-requires
-    (λ c κs. search (chaining, placing, rules))  -- both-requires-then-count-eq2
-    (λ c κs. search (chaining, placing, rules))  -- both-requires-then-count-eq2-2
     (λ c κs. search (chaining, placing, rules))  -- both-requires-2
-    (λ c. search (chaining, placing, rules))  -- returns-then-count-eq0
+    (λ c κs. search (chaining, placing, rules))  -- both-requires-3
+    (λ c κs. search (chaining, placing, rules))  -- both-requires-4
+    (λ c. search (chaining, placing, rules))  -- returns
     )

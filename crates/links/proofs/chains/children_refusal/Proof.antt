@@ -26,5 +26,5 @@ children_refusal_spec =
     (λ c. search (scanning, chaining, rules))  -- loop-n-smaller
     (λ c. search (scanning, chaining, rules))  -- loop-n-preserved
     (λ c κs. search (scanning, chaining, rules))  -- no_refusal-requires
-    (λ c. search (scanning, chaining, rules))  -- returns-then-not-children_ok
+    (λ c. search (scanning, chaining, rules))  -- returns
     )

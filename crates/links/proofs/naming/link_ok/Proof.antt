@@ -9,5 +9,5 @@ link_ok_spec =
     tie.close (tie.spec
     (λ c. search (judging, rules))  -- returns-then-link-eq0
     (λ c κs. search (judging, rules))  -- both-requires
-    (λ c. search (judging, rules))  -- returns-then-link-eq0
+    (λ c. search (judging, rules))  -- returns
     )

@@ -17,5 +17,5 @@ links_ok_spec =
     (λ c. search (judging, rules))  -- overflow_cast-i
     (λ c. search (judging, rules))  -- offset_bounds-counts-i
     (λ c. search (judging, rules))  -- bounds-counts-i
-    (λ c. search (judging, rules))  -- returns-then-not-link_ok
+    (λ c. search (judging, rules))  -- returns
     )

@@ -35,5 +35,5 @@ lowest_bad_spec =
     (λ c. search (counting, scanning, rules))  -- loop-n-preserved
     (λ c κs. search (counting, scanning, rules))  -- no_refusal-requires
     (λ c. search (counting, scanning, rules))  -- shape_of-counts
-    (λ c. search (counting, scanning, rules))  -- returns-then-not-links_ok
+    (λ c. search (counting, scanning, rules))  -- returns
     )
