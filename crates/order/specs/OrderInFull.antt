@@ -67,6 +67,7 @@ full_equality = record { same = same_full; equal = full_equal; itself = full_its
 abbrev pub full_number : List Full → Full → ℕ
 full_number seen f = number_among full_equality f seen
 
+-- The order of use of types in full. What is cut, which no entry of a good table is, needs nothing and has no entry.
 unfoldable pub need_full : Full → List Full → List Full
 need_full nat seen = elim (eqb (full_number seen nat) 0) [ true ↦ nat ∷ seen | false ↦ seen ]
 need_full (fn f g) seen = elim (eqb (full_number seen (fn f g)) 0) [ true ↦ fn f g ∷ need_full g (need_full f seen) | false ↦ seen ]
