@@ -70,7 +70,7 @@ root_copied : (t : ℕ) (c : copy-raised-lts.After-raise_root (copy_raised_claim
 root_copied t c = record {
   measure = c.requires.0;
   tree = tree_read t c.before.before.before.before.before.before;
-  free = c.if-r-d.false;
+  free = omega arith;
   root = c.raise_root.ensures;
   same = c.raise_root.auto.w ∙ c.loop-done.invariant.0;
 }
