@@ -11,7 +11,7 @@ use Rattle.rules.specs.Terms.{Fields, Term, leaf, unary, binary, ternary, size}
 use Rattle.rules.specs.FreeBounds.{own_bound}
 use Rattle.rules.specs.Format.{Record}
 use Rattle.rules.specs.Links.{linked}
-use Rattle.order.specs.Order.{field_types, types_of_record, types_named, renumbered_fields, renumbered_record, renumbered}
+use Rattle.order.specs.Order.{field_types, types_of_record, types_named, renumbered_fields, renumbered_record, renumbered_term}
 use Rattle.order.specs.Alike.{Alike, leaves, unaries, binaries, ternaries}
 use Rattle.rules.proofs.KindTable.{each_kind, kind_back}
 use Rattle.order.proofs.Alike.{size_alike, plain_alike}
@@ -52,8 +52,8 @@ module _ (new : ℕ → ℕ) where
   abbrev By : Kind → Fields → Fields → Type 0
   By k f g = g ≡ renumbered_fields new k f
 
-  like_renumbered : (t : Term) → Alike By t (renumbered new t)
-  unfolding renumbered
+  like_renumbered : (t : Term) → Alike By t (renumbered_term new t)
+  unfolding renumbered_term
   like_renumbered (leaf k f) = leaves k f _ refl
   like_renumbered (unary k f t) = unaries k f _ refl (like_renumbered t)
   like_renumbered (binary k f t u) = binaries k f _ refl (like_renumbered t) (like_renumbered u)
@@ -62,10 +62,10 @@ module _ (new : ℕ → ℕ) where
   own_renumbered : (f : Fields) (k : Kind) → own_bound k f ≡ own_bound k (renumbered_fields new k f)
   own_renumbered f = each_kind (λ k. own_bound k f ≡ own_bound k (renumbered_fields new k f)) (omega arith)
 
-  pub size_renumbered : (t : Term) → size (renumbered new t) ≡ size t
+  pub size_renumbered : (t : Term) → size (renumbered_term new t) ≡ size t
   size_renumbered t = sym (size_alike (like_renumbered t))
 
-  measure_renumbered : (t : Term) → bound_and_plain (renumbered new t) ≡ bound_and_plain t
+  measure_renumbered : (t : Term) → bound_and_plain (renumbered_term new t) ≡ bound_and_plain t
   measure_renumbered t =
       sym (ap₂ (λ x y. 2 * x + pick y 1 0) (bound_alike (λ k f g e. own_renumbered f k ∙ ap (own_bound k) (sym e)) (like_renumbered t)) (plain_alike (like_renumbered t)))
 
@@ -73,8 +73,8 @@ module _ (new : ℕ → ℕ) where
   linked_renumbered : (k : Kind) (f : Fields) {m m' n n' : ℕ} → m ≡ m' → n ≡ n' → linked k (renumbered_fields new k f) m n ≡ renumbered_record new (linked k f m' n')
   linked_renumbered k f p q = λ i. linked k (renumbered_fields new (sym (kind_back k) i) f) (p i) (q i)
 
-  preorder_renumbered : (t : Term) → preorder (renumbered new t) ≡ map (renumbered_record new) (preorder t)
-  unfolding preorder renumbered
+  preorder_renumbered : (t : Term) → preorder (renumbered_term new t) ≡ map (renumbered_record new) (preorder t)
+  unfolding preorder renumbered_term
   preorder_renumbered (leaf k f) =
       let v = leaf k f in
       ap (λ r. r ∷ []) (linked_renumbered (leaf₀ k) f (size_renumbered v) (measure_renumbered v))
@@ -97,9 +97,9 @@ module _ (new : ℕ → ℕ) where
   take_front (suc k) [] = refl
   take_front (suc k) (r ∷ rs) = ap (◌∷◌ (renumbered_record new r)) (take_front k rs)
 
-  pub renumbered_at : (rs : List Record) (t : Term) → At rs 0 t → At (renumbered_front new (size t) rs) 0 (renumbered new t)
+  pub renumbered_at : (rs : List Record) (t : Term) → At rs 0 t → At (renumbered_front new (size t) rs) 0 (renumbered_term new t)
   renumbered_at rs t h =
-      let n = length_preorder (renumbered new t) ∙ size_renumbered t in
+      let n = length_preorder (renumbered_term new t) ∙ size_renumbered t in
       record {
         there = record {
           within = omega (arith, n, front_length new (size t) rs, h.there.within, length_preorder t);

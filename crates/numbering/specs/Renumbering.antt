@@ -31,7 +31,7 @@ front_names n rs = joined types_of_record (take n rs)
 abbrev pub front_uses : Table → ℕ → List Record → List ℕ
 front_uses types n rs = need_all types (front_names n rs) []
 
--- The first n records can be renumbered: the types that they name are entries, and none has a number yet.
+-- The first n records can be renumbered_term: the types that they name are entries, and none has a number yet.
 pub record CanRenumber (types : Table) (rs : List Record) (n : ℕ) (new : List ℕ) : Type 0 where
   pub good : GoodEntries types
   pub few : length types < 257

@@ -124,12 +124,12 @@ fn order_entry(table: &[u8], x: u16, new: &[u16], ordered: &mut [u8])
         return;
     }
     let e = records::entry_no(table, x);
-    let renumbered = Entry {
+    let renumbered_term = Entry {
         kind: e.kind,
         a: new[e.a as usize],
         b: new[e.b as usize],
     };
-    records::put_entry(ordered, (number - 1) as usize, renumbered)
+    records::put_entry(ordered, (number - 1) as usize, renumbered_term)
 }
 
 // The same for each type of the table.

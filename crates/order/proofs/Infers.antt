@@ -31,7 +31,7 @@ use Rattle.order.proofs.Alike.{size_alike}
 use Rattle.order.proofs.SameFields.{same_turned, same_joined, same_omitted}
 use Rattle.order.proofs.Forced.{types_forced}
 use Rattle.order.proofs.Same.{same_written, same_output}
-use Rattle.order.proofs.Output.{output_same, written_in_order, output_length as ordered-length, output_short_lem}
+use Rattle.order.proofs.Output.{output_same, written_in_order, output_length as ordered_length, output_short_lem}
 use Rattle.order.proofs.Programs.{same_first}
 use Rattle.order.proofs.Runs.{written_accepted, written_again}
 use Rattle.order.proofs.SameTypes.{same_cleared}
@@ -89,7 +89,7 @@ module _ (edition : Edition) (program : List ℕ) (out_length work_length : ℕ)
   output_length =
       let (m, f) = accepted_fills in
       let r = filling_size edition program m A t f in
-      (ordered-length A table t f.typed small ∙ ap (λ n. 4 + 6 * length (written_table A t) + 16 * n) r, omega (arith, output_short_lem A table t f.typed small, f.few, small))
+      (ordered_length A table t f.typed small ∙ ap (λ n. 4 + 6 * length (written_table A t) + 16 * n) r, omega (arith, output_short_lem A table t f.typed small, f.few, small))
 
   -- "A run of fuel 0 on a written file gives the same bytes."
   pub infer_again : HasEveryKind edition → (out : List ℕ) (work_length' : ℕ) → output_needed ≤ length out → work_needed ≤ work_length'
@@ -100,11 +100,11 @@ module _ (edition : Edition) (program : List ℕ) (out_length work_length : ℕ)
 
 -- "Two accepted inputs .. that differ just in table order or unused entries write alike": and all fields of their answers are alike.
 module _ (edition : Edition) (p q : List ℕ) (same : SameProgram omitted p q) (out : List ℕ) (work_length : ℕ) (A B : Table) (t u : Term)
-    (accepted-p : inference_lent edition p (length out) work_length ≡ filled A t) (accepted-q : inference_lent edition q (length out) work_length ≡ filled B u) where
+    (accepted_p : inference_lent edition p (length out) work_length ≡ filled A t) (accepted_q : inference_lent edition q (length out) work_length ≡ filled B u) where
   filled_alike : SameTerm A B t u
   filled_alike =
-      let (m, f) = accepted_fills edition p (length out) work_length A t accepted-p in
-      let (n, g) = accepted_fills edition q (length out) work_length B u accepted-q in
+      let (m, f) = accepted_fills edition p (length out) work_length A t accepted_p in
+      let (n, g) = accepted_fills edition q (length out) work_length B u accepted_q in
       let P = table_of p in
       let Q = table_of q in
       let from-p = filling_alike edition p m A t f in
@@ -114,15 +114,15 @@ module _ (edition : Edition) (p q : List ℕ) (same : SameProgram omitted p q) (
 
   bytes_alike : (output_in_order A t ≡ output_in_order B u) × (written_term A t ≡ written_term B u)
   bytes_alike =
-      let (m, f) = accepted_fills edition p (length out) work_length A t accepted-p in
-      let (n, g) = accepted_fills edition q (length out) work_length B u accepted-q in
+      let (m, f) = accepted_fills edition p (length out) work_length A t accepted_p in
+      let (n, g) = accepted_fills edition q (length out) work_length B u accepted_q in
       (same_output A B f.entries g.entries filled_alike, same_written A B f.entries g.entries filled_alike)
 
   pub inputs_infer_alike : infer_answer_in_order edition p (length out) work_length ≡ infer_answer_in_order edition q (length out) work_length
   unfolding infer_answer_in_order
-  inputs_infer_alike = ap answer_in_order accepted-p
-      ∙ ((λ i. record { number = 0; place = 0; root_type = type_of (bytes_alike.1 i); written = length (bytes_alike.0 i) }) ∙ ap answer_in_order (sym accepted-q))
+  inputs_infer_alike = ap answer_in_order accepted_p
+      ∙ ((λ i. record { number = 0; place = 0; root_type = type_of (bytes_alike.1 i); written = length (bytes_alike.0 i) }) ∙ ap answer_in_order (sym accepted_q))
 
   pub inputs_write_alike : infer_output_in_order edition p out work_length ≡ infer_output_in_order edition q out work_length
   unfolding infer_output_in_order
-  inputs_write_alike = ap (λ o. bytes_in_order o out) accepted-p ∙ (ap (written_over out) bytes_alike.0 ∙ ap (λ o. bytes_in_order o out) (sym accepted-q))
+  inputs_write_alike = ap (λ o. bytes_in_order o out) accepted_p ∙ (ap (written_over out) bytes_alike.0 ∙ ap (λ o. bytes_in_order o out) (sym accepted_q))

@@ -98,12 +98,12 @@ module _ (edition : Edition) (all : HasEveryKind edition) (program : List ℕ) (
 
 -- "Two accepted inputs with equal fuel .. that differ just in table order or unused entries write alike": and all fields of their answers are alike.
 module _ (edition : Edition) (p q : List ℕ) (same : SameProgram given p q) (fuel : ℕ) (out : List ℕ) (work_length : ℕ)
-    (accepted-p : run_refusal edition p (length out) work_length ≡ none) (accepted-q : run_refusal edition q (length out) work_length ≡ none) where
+    (accepted_p : run_refusal edition p (length out) work_length ≡ none) (accepted_q : run_refusal edition q (length out) work_length ≡ none) where
   m : Meets edition p
-  m = (exactly edition p).0 (both_pass _ _ accepted-p).1
+  m = (exactly edition p).0 (both_pass _ _ accepted_p).1
 
   n : Meets edition q
-  n = (exactly edition q).0 (both_pass _ _ accepted-q).1
+  n = (exactly edition q).0 (both_pass _ _ accepted_q).1
 
   good : GoodEntries (table_of p)
   good = m.layout.form.entries
@@ -130,8 +130,8 @@ module _ (edition : Edition) (p q : List ℕ) (same : SameProgram given p q) (fu
 
   pub inputs_answer_alike : run_answer_in_order edition p fuel (length out) work_length ≡ run_answer_in_order edition q fuel (length out) work_length
   unfolding run_answer_in_order
-  inputs_answer_alike = rw (accepted-p, accepted-q, run_answer_in_order) answers_alike
+  inputs_answer_alike = rw (accepted_p, accepted_q, run_answer_in_order) answers_alike
 
   pub inputs_write_alike : run_output_in_order edition p fuel out work_length ≡ run_output_in_order edition q fuel out work_length
   unfolding run_output_in_order
-  inputs_write_alike = rw (accepted-p, accepted-q, run_output_in_order) (ap (written_over out) bytes_alike)
+  inputs_write_alike = rw (accepted_p, accepted_q, run_output_in_order) (ap (written_over out) bytes_alike)

@@ -9,7 +9,7 @@ use Rattle.rules.specs.Types.{Table}
 use Rattle.rules.specs.FieldUses.{Use, unused, an_index, a_type, a_number, uses, given}
 use Rattle.rules.specs.Links.{written}
 use Rattle.order.specs.FullTypes.{NamesType, GoodEntries, in_full, SameType}
-use Rattle.order.specs.Order.{types_in, field_types, types_named, new_number, used, written_table, renumbered_in, renumbered_fields, renumbered, written_term}
+use Rattle.order.specs.Order.{types_in, field_types, types_named, new_number, used, written_table, renumbered_in, renumbered_fields, renumbered_term, written_term}
 use Rattle.order.specs.RunInOrder.{output_in_order}
 use Rattle.order.specs.OrderInFull.{full_number, need_all_full, table_of_full}
 use Rattle.order.specs.Alike.{leaves, unaries, binaries, ternaries, SameIn, SameFields, SameTerm}
@@ -65,8 +65,8 @@ module _ (types types' : Table) where
       value = h.value d;
     }
 
-    one_term : {t t' : Term} → SameTerm types types' t t' → renumbered new t ≡ renumbered new' t'
-    unfolding renumbered
+    one_term : {t t' : Term} → SameTerm types types' t t' → renumbered_term new t ≡ renumbered_term new' t'
+    unfolding renumbered_term
     one_term (leaves k f g r) = ap (leaf k) (one_at (leaf₀ k) f g r)
     one_term (unaries k f g r h) = ap₂ (unary k) (one_at (unary₁ k) f g r) (one_term h)
     one_term (binaries k f g r h i) = λ d. binary k (one_at (binary₂ k) f g r d) (one_term h d) (one_term i d)

@@ -8,7 +8,7 @@ use Rattle.rules.specs.BenchSheet.{fields, table, num, var, fun, app, quo, ident
 use Rattle.inference.specs.FullTypes.{fn, code, nat, full}
 use Rattle.order.specs.FullTypes.{in_full}
 use Rattle.order.specs.Numbers.{number_among}
-use Rattle.order.specs.Order.{types_named, need, need_all, used, table_by, renumbered, written_table, written_term}
+use Rattle.order.specs.Order.{types_named, need, need_all, used, table_by, renumbered_term, written_table, written_term}
 use Rattle.rules.specs.Traces.{total_of}
 use Rattle.rules.specs.Run.{valued, ended}
 use Rattle.order.specs.RunInOrder.{output_in_order, accepted_in_order}
@@ -36,7 +36,7 @@ unfolding used need_all need number_among table_by types_named
 type_first = refl
 
 new_numbers : written_term table matching ≡ ternary (match (match_shape match_application)) (fields 2 4 2 0) (quo 2 (app 1 (fun 3 1 (var 1 0)) (num 10))) (var 2 0) (quo 2 (num 2))
-unfolding used need_all need number_among types_named renumbered
+unfolding used need_all need number_among types_named renumbered_term
 new_numbers = refl
 
 -- The same program over a table in another order, with entries that it does not use.
@@ -47,15 +47,15 @@ abbrev matching' : Term
 matching' = ternary (match (match_shape match_application)) (fields 6 4 6 0) (quo 6 (app 1 identity (num 10))) (var 6 0) (quo 6 (num 2))
 
 written_alike : output_in_order table matching ≡ output_in_order other matching'
-unfolding used need_all need number_among table_by types_named renumbered
+unfolding used need_all need number_among table_by types_named renumbered_term
 written_alike = refl
 
 -- "The root type that a run .. returns is a number in the written table", whatever its number in the input's.
 root_in_written_table : (accepted_in_order other (ended valued matching')).root_type ≡ 2
-unfolding used need_all need number_among types_named renumbered total_of
+unfolding used need_all need number_among types_named renumbered_term total_of
 root_in_written_table = refl
 
 -- An index is no type: it stays.
 index_stays : written_term other (fun 2 1 (var 1 5)) ≡ fun 2 1 (var 1 5)
-unfolding used need_all need number_among types_named renumbered
+unfolding used need_all need number_among types_named renumbered_term
 index_stays = refl

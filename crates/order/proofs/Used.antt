@@ -16,7 +16,7 @@ use Rattle.rules.specs.Typing.{Env, Typed}
 use Rattle.rules.proofs.General.{all_append}
 use Rattle.inference.specs.FullTypes.{Full, Whole}
 use Rattle.order.specs.FullTypes.{NamesType, GoodEntries, in_full, SameType, PartOf}
-use Rattle.order.specs.Order.{types_in, field_types, types_named, new_number, used, written_table, renumbered_in, renumbered_fields, renumbered, written_term}
+use Rattle.order.specs.Order.{types_in, field_types, types_named, new_number, used, written_table, renumbered_in, renumbered_fields, renumbered_term, written_term}
 use Rattle.order.specs.OrderInFull.{full_equality, full_number, need_all_full, table_of_full, In, Listed}
 use Rattle.order.specs.Alike.{leaves, unaries, binaries, ternaries, SameIn, SameFields, SameTerm}
 use Rattle.order.proofs.Lists.{all_with, all_split}
@@ -78,8 +78,8 @@ module _ (types types' : Table) (new : ℕ → ℕ) where
       let (a, b) = all_split Moves (types_in (uses k).a f.a) (types_in (uses k).b f.b) r in
       record { type = h; a = field_renumbered (uses k).a f.a a; b = field_renumbered (uses k).b f.b b; value = refl }
 
-  pub renumbered_same : (t : Term) → All Moves (types_named t) → SameTerm types types' t (renumbered new t)
-  unfolding types_named renumbered
+  pub renumbered_same : (t : Term) → All Moves (types_named t) → SameTerm types types' t (renumbered_term new t)
+  unfolding types_named renumbered_term
   renumbered_same (leaf k f) h = leaves k f _ (fields_renumbered (leaf₀ k) f h)
   renumbered_same (unary k f t) h = let (o, i) = all_split Moves (field_types (unary₁ k) f) (types_named t) h in unaries k f _ (fields_renumbered (unary₁ k) f o) (renumbered_same t i)
   renumbered_same (binary k f t u) h =

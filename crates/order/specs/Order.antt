@@ -76,15 +76,15 @@ renumbered_fields new k f = record { type = new f.type; a = renumbered_in new (u
 abbrev pub renumbered_record : (ℕ → ℕ) → Record → Record
 renumbered_record new r = record { kind = r.kind; fields = renumbered_fields new (kind_of r.kind) r.fields; first = r.first; next = r.next }
 
-unfoldable pub renumbered : (ℕ → ℕ) → Term → Term
-renumbered new (leaf k f) = leaf k (renumbered_fields new (leaf₀ k) f)
-renumbered new (unary k f t) = unary k (renumbered_fields new (unary₁ k) f) (renumbered new t)
-renumbered new (binary k f t u) = binary k (renumbered_fields new (binary₂ k) f) (renumbered new t) (renumbered new u)
-renumbered new (ternary k f t s e) = ternary k (renumbered_fields new (ternary₃ k) f) (renumbered new t) (renumbered new s) (renumbered new e)
+unfoldable pub renumbered_term : (ℕ → ℕ) → Term → Term
+renumbered_term new (leaf k f) = leaf k (renumbered_fields new (leaf₀ k) f)
+renumbered_term new (unary k f t) = unary k (renumbered_fields new (unary₁ k) f) (renumbered_term new t)
+renumbered_term new (binary k f t u) = binary k (renumbered_fields new (binary₂ k) f) (renumbered_term new t) (renumbered_term new u)
+renumbered_term new (ternary k f t s e) = ternary k (renumbered_fields new (ternary₃ k) f) (renumbered_term new t) (renumbered_term new s) (renumbered_term new e)
 
 -- What is written for a term over a table: the table in order of use, and the term with that table's numbers.
 abbrev pub written_table : Table → Term → Table
 written_table types t = table_by types (used types t)
 
 abbrev pub written_term : Table → Term → Term
-written_term types t = renumbered (new_number (used types t)) t
+written_term types t = renumbered_term (new_number (used types t)) t

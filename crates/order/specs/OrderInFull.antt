@@ -1,12 +1,9 @@
 -- The order of use over types in full. It knows no table: so what is written depends on types in full only.
-use Rattle.std.specs.Prelude.{ℕ, ◌<◌, Bool, true, false, List, [], ◌∷◌, ◌++◌, ◌≡◌, refl, T, eqb}
+use Rattle.std.specs.Prelude.{ℕ, ◌<◌, Bool, true, false, ◌&&◌, List, [], ◌∷◌, ◌++◌, ◌≡◌, refl, T, eqb}
 use Rattle.rules.specs.Types.{Entry, Table, no_entry, Nat, Fn, Code}
+use mir.Facts.{and_yes, yes_and}
 use Rattle.inference.specs.FullTypes.{Full, nat, fn, code, cut}
 use Rattle.order.specs.Numbers.{Equality, number_among}
-
-abbrev both : Bool → Bool → Bool
-both true b = b
-both false b = false
 
 -- The same type in full.
 unfoldable pub same_full : Full → Full → Bool
@@ -15,7 +12,7 @@ same_full nat (fn f g) = false
 same_full nat (code f) = false
 same_full nat cut = false
 same_full (fn f g) nat = false
-same_full (fn f g) (fn f' g') = both (same_full f f') (same_full g g')
+same_full (fn f g) (fn f' g') = same_full f f' && same_full g g'
 same_full (fn f g) (code f') = false
 same_full (fn f g) cut = false
 same_full (code f) nat = false
@@ -27,14 +24,6 @@ same_full cut (fn f g) = false
 same_full cut (code f) = false
 same_full cut cut = true
 
-both_are : (a b : Bool) → T (both a b) → T a × T b
-both_are true b t = (tt, t)
-both_are false b t = absurd t
-
-are_both : (a b : Bool) → T a → T b → T (both a b)
-are_both true b s t = t
-are_both false b s t = absurd s
-
 full_equal : (f g : Full) → T (same_full f g) → f ≡ g
 unfolding same_full
 full_equal nat nat t = refl
@@ -42,7 +31,7 @@ full_equal nat (fn f g) t = absurd t
 full_equal nat (code f) t = absurd t
 full_equal nat cut t = absurd t
 full_equal (fn f g) nat t = absurd t
-full_equal (fn f g) (fn f' g') t = let (p, q) = both_are (same_full f f') (same_full g g') t in λ i. fn (full_equal f f' p i) (full_equal g g' q i)
+full_equal (fn f g) (fn f' g') t = let (p, q) = and_yes (same_full f f') (same_full g g') t in λ i. fn (full_equal f f' p i) (full_equal g g' q i)
 full_equal (fn f g) (code f') t = absurd t
 full_equal (fn f g) cut t = absurd t
 full_equal (code f) nat t = absurd t
@@ -57,7 +46,7 @@ full_equal cut cut t = refl
 full_itself : (f : Full) → T (same_full f f)
 unfolding same_full
 full_itself nat = tt
-full_itself (fn f g) = are_both (same_full f f) (same_full g g) (full_itself f) (full_itself g)
+full_itself (fn f g) = yes_and (same_full f f) (same_full g g) (full_itself f) (full_itself g)
 full_itself (code f) = full_itself f
 full_itself cut = tt
 
