@@ -8,11 +8,8 @@ CUT = int(os.environ.get("CUT", "1500"))
 
 
 def short(line):
-    def module(m):
-        return m.group(0) if m.group(0).startswith(("lts.", "reads.")) else ""
-
-    line = re.sub(r"(?<![/\w])(?:[\w·+-]+\.)+(?=[^\s.()/])", module, line)
-    return re.sub(r"(?: \.before)+", lambda m: " .b%d" % m.group(0).count(".before"), line)
+    line = re.sub(r"(?<![/\w.])(?:Rattle|Prim|native|mathlib|lib|mir|borrow|denote)\.(?:[\w+-]+\.)*(?=[^\s.()/])", "", line)
+    return re.sub(r"(?:\.before){2,}(?![\w-])", lambda m: ".b%d" % m.group(0).count(".before"), line)
 
 
 def offered(lines, i):
