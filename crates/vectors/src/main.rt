@@ -5,9 +5,8 @@
 mod answers; // what infer and run answer and write, as text
 
 use reading::INPUT;
-use std::io::{self, ErrorKind};
 use std::rt::Files;
-use std::str;
+use std::{fs, io};
 
 // What is printed of an input.
 #[derive(Clone, Copy)]
@@ -39,13 +38,9 @@ fn print_files(rt: &(impl Files + Print), names: &str, text: Text) -> io::Result
     Ok(())
 }
 
-fn print_list(rt: &(impl Files + Print), list: &str, text: Text) -> io::Result<()> {
-    let mut names = [0u8; INPUT];
-    let n = reading::read_file(rt, list, &mut names)?;
-    match str::from_utf8(&names[..n]) {
-        Ok(names) => print_files(rt, names, text),
-        Err(_) => Err(io::Error::new(ErrorKind::InvalidData, "a name is no text")),
-    }
+fn print_list(rt: &(impl Files + Alloc + Print), list: &str, text: Text) -> io::Result<()> {
+    let names = fs::read_to_string(rt, list)?;
+    print_files(rt, names.as_str(), text)
 }
 
 fn main(rt: HostRuntime) -> io::Result<()> {
