@@ -7,7 +7,7 @@ use mathlib.Core.Option.{Option, none, some}
 use mathlib.Core.Path.{◌≡◌, refl, ap, ap₂, sym, ◌∙◌, subst}
 use lib.Dec.{T, eqb, eqb→eq, eqb_refl}
 use Rattle.rules.specs.Lists.{pick}
-use Rattle.rules.specs.Kinds.{number, variable, function, fix, lift, quote, splice, application, Match, match, match_variable, Kind, leaf₀, unary₁, binary₂, ternary₃, kind_number, kind_of, numbered}
+use Rattle.rules.specs.Kinds.{number, variable, function, fix, lift, quote, splice, application, Match, match, ternary₃, kind_number, kind_of, numbered}
 use Rattle.rules.specs.Terms.{Fields, Term, leaf, unary, ternary}
 use Rattle.rules.specs.Types.{Table, entry, Fn, part_a, part_b}
 use Rattle.rules.specs.Conditions.{Holds}
@@ -18,7 +18,7 @@ use Rattle.order.specs.FullTypes.{GoodEntries, in_full, SameType}
 use Rattle.order.specs.Alike.{leaves, unaries, binaries, ternaries, SameFields, SameTerm}
 use Rattle.rules.proofs.General.{Gives, is_true, is_false}
 use Rattle.rules.proofs.Tests.{never}
-use Rattle.rules.proofs.KindTable.{kind_back}
+use Rattle.rules.proofs.RuleKinds.{match_at, if_of_kind_lem}
 use Rattle.order.proofs.Lists.{nothing, also}
 use Rattle.order.proofs.Full.{full_injective}
 use Rattle.order.proofs.Entries.{equal_there, fn_parts, code_part}
@@ -44,20 +44,17 @@ both_none P none (some y) h e = absurd h
 both_none P (some z) none h e = refl
 both_none P (some z) (some y) h e = absurd (never e)
 
--- The match whose kind has number n. What stands for a number that no match's kind has is of no account.
-abbrev match_of : Kind → Match
-match_of (leaf₀ k) = match_variable
-match_of (unary₁ k) = match_variable
-match_of (binary₂ k) = match_variable
-match_of (ternary₃ (match k)) = k
-
-abbrev match_at : ℕ → Match
-match_at n = match_of (kind_of n)
+-- A match is the one whose kind has its number.
+own_match : (k : Match) → k ≡ match_at (kind_number (ternary₃ (match k)))
+own_match k =
+    let n = kind_number (ternary₃ (match k)) in
+    let P : Option (List Term) → Type 0 = λ o. o ≡ some [] → k ≡ match_at n in
+    if_of_kind_lem P k n true [] none (λ e t s. e) (λ s. absurd (never (sym s))) (rw (is_true (eqb n n) (eqb_refl n)) refl)
 
 -- A match of kind number n that binds alike terms by one test.
 taking_same : (P : List Term → List Term → Type 0) (k : Match) (n : ℕ) (b c : Bool) (ts us : List Term) (o q : Option (List Term))
     → (k ≡ match_at n → (b ≡ c) × P ts us) → Both P o q → Both P (if_of_kind k n b ts o) (if_of_kind k n c us q)
-taking_same P k n b c ts us o q h r = go (eqb (kind_number (ternary₃ (match k))) n) (λ t. h (sym (ap match_of (kind_back (ternary₃ (match k)))) ∙ ap match_at (eqb→eq (kind_number (ternary₃ (match k))) n t)))
+taking_same P k n b c ts us o q h r = go (eqb (kind_number (ternary₃ (match k))) n) (λ t. h (own_match k ∙ ap match_at (eqb→eq (kind_number (ternary₃ (match k))) n t)))
   where
     go : (d : Bool) → (T d → (b ≡ c) × P ts us) → Both P (pick (d && b) (some ts) o) (pick (d && c) (some us) q)
     go true h = picked₂ (Both P) b c (h tt).0 (λ _. (h tt).1) (λ _. r)
