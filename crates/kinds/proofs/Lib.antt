@@ -1,2 +1,3 @@
 -- The laws of the tables.
 pub mod KindRanges
+pub mod Named

@@ -5,7 +5,9 @@
 mod bounds; // how many types and records a program may have
 mod conditions; // the tests of conditions
 mod editions; // what a program may use
+mod names; // the kinds by name, and their tables
 mod numbers; // the larger of two
+mod uses; // what fields are used for
 
 ghost use Rattle.std.specs.Prelude.{◌≡◌};
 ghost use Rattle.rules.specs.Kinds.{child_count, kind_of};
@@ -21,7 +23,9 @@ ghost use Rattle.rules.specs.Steps.{stepping};
 pub use bounds::{MOST_RECORDS, MOST_TYPES};
 pub use conditions::{both, either, in_range};
 pub use editions::{Edition, first_edition};
+pub use names::Kind;
 pub use numbers::larger;
+pub use uses::Use;
 
 // Two bits for each kind, kind 0 lowest: how many children a record of it has.
 const CHILDREN: u32 = 0x3FFD5640;
