@@ -1,2 +1,3 @@
 -- What a refusal by value says.
 pub mod Tells
+pub mod Reports

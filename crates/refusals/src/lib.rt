@@ -1,9 +1,15 @@
-// A refusal by value, as the checks hand it on: its number and place, or both 0 where nothing is refused.
+// A refusal by value, as the checks hand it on, and the scan for the lowest one.
 #![tactic(auto)]
+
+mod reasons; // why something is refused
+mod lowest; // the lowest number that breaks a rule
 
 ghost use Rattle.std.specs.Prelude.{◌≤◌};
 ghost use Rattle.std.proofs.Math.Option.{none, some};
 ghost use Rattle.refusals.specs.Tells.{Tells, refusal_by};
+
+pub use lowest::lowest_refusal;
+pub use reasons::{Reason, Refusal};
 
 // The numbers of document 01's table of refusals.
 pub const OUTPUT_SHORT: u16 = 1;
