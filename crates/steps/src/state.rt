@@ -153,13 +153,7 @@ impl State {
     pub fn is_value(self) -> bool
         ensures { TellsValue self result }
     {
-        let turn = self.turn;
-        match turn {
-            Turn::Value(_) => true,
-            Turn::Next(_) => false,
-            Turn::Redex(_, _) => false,
-            Turn::Match(_) => false,
-        }
+        matches!(self.turn, Turn::Value(_))
     }
 
     // The focus, brought before the gap where it isn't.
