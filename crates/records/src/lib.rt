@@ -24,7 +24,7 @@ pub struct Record {
 }
 
 // An entry of the type table.
-#[derive(Clone, Copy)]
+#[derive(Clone, Copy, PartialEq, Eq)]
 pub struct Entry {
     pub kind: u16,
     pub a: u16,
