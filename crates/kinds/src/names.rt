@@ -9,7 +9,7 @@ ghost use Rattle.rules.specs.Typing.{levels, standing, first_level};
 ghost use Rattle.rules.specs.Values.{plain_kind};
 ghost use Rattle.rules.specs.Contractions.{contracts};
 ghost use Rattle.rules.specs.Steps.{stepping};
-ghost use Rattle.kinds.specs.Named.{kind_meant, use_meant, Seeks};
+ghost use Rattle.kinds.specs.Named.{kind_meant, use_meant, IsKind, Seeks};
 
 use crate::uses::Use;
 
@@ -55,6 +55,30 @@ impl Kind {
             13 => Kind::MatchFunction,
             14 => Kind::MatchFix,
             _ => Kind::Number,
+        }
+    }
+
+    // The same of a number that a kind has, so that nothing is compared.
+    pub fn known(number: u16) -> Kind
+        requires { IsKind number }
+        ensures { kind_meant result ≡ kind_of number }
+    {
+        match number {
+            1 => Kind::Number,
+            2 => Kind::Variable,
+            3 => Kind::Function,
+            4 => Kind::Application,
+            5 => Kind::Fix,
+            6 => Kind::Lift,
+            7 => Kind::Quote,
+            8 => Kind::Splice,
+            9 => Kind::MatchNumber,
+            10 => Kind::MatchVariable,
+            11 => Kind::MatchApplication,
+            12 => Kind::MatchLift,
+            13 => Kind::MatchFunction,
+            14 => Kind::MatchFix,
+            _ => unreachable!(),
         }
     }
 

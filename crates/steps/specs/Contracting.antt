@@ -1,5 +1,5 @@
 -- The redex is contracted, once its plan is known: what stands around the hole that it leaves, and what fills it.
-use Rattle.std.specs.Prelude.{ℕ, ◌+◌, ◌^◌, ◌≤◌, ◌<◌, List, [], false, ◌≡◌}
+use Rattle.std.specs.Prelude.{ℕ, ◌+◌, ◌^◌, ◌≤◌, ◌<◌, List, [], ◌≡◌, Some}
 use Rattle.rules.specs.Terms.{Term, size}
 use Rattle.rules.specs.Types.{Table}
 use Rattle.rules.specs.Typing.{Typed}
@@ -45,8 +45,7 @@ pub record CanProceed (rs : List Record) (s : State) (a : Aim) : Type 0 where
   pub whole : Term
   pub contracting : Contracting types rs s a whole
   pub room : Roomy contracting
-  pub going : s.stopped ≡ false
   pub counts : s.steps + 1 < 2 ^ 32
 
 pub record Proceeds (rs rs' : List Record) (s : State) (a : Aim) (r : State) : Type 0 where
-  pub does : (types : Table) (whole : Term) (k : Contracting types rs s a whole) → Roomy k → After types rs' s r whole r.stopped
+  pub does : (types : Table) (whole : Term) (k : Contracting types rs s a whole) → Roomy k → After types rs' s whole (Some r)

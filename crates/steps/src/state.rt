@@ -18,11 +18,10 @@ const MOST: usize = kinds::MOST_RECORDS as usize;
 const SLOTS: usize = 4096;
 
 // Where a run stands: at a focus that is to be searched, at a value, or at the record that is rewritten next. `steps` are made, and `event` is that of the
-// last one, all 0 before the first. It is stopped where the next term has more than 2,048 records.
+// last one, all 0 before the first.
 #[derive(Clone, Copy)]
 pub struct State {
     pub turn: Turn,
-    pub stopped: bool,
     pub steps: u32,
     pub event: Event,
 }
@@ -52,7 +51,6 @@ impl State {
         };
         State {
             turn: Turn::Next(first),
-            stopped: false,
             steps: 0,
             event: Event {
                 rule: 0,
@@ -72,7 +70,6 @@ impl State {
         match turn {
             Turn::Next(a) => State {
                 turn: seek_from(work, a),
-                stopped: self.stopped,
                 steps: self.steps,
                 event,
             },
@@ -130,7 +127,6 @@ impl State {
         let next = zipper::put_ahead(work, hole, made.at, made.size);
         State {
             turn: Turn::Next(next),
-            stopped: self.stopped,
             steps: self.steps + 1,
             event: Event {
                 rule: aim.rule,
@@ -140,31 +136,24 @@ impl State {
         }
     }
 
-    // One step of a term that isn't a value: the next term, where there is room for it.
-    pub fn step(mut self, table: &[u8], work: &mut [u8]) -> State
+    // One step of a term that isn't a value: the next term, or none where it has more than 2,048 records, and the term stays as it is.
+    pub fn step(self, table: &[u8], work: &mut [u8]) -> Option<State>
         requires { CanStep (entries_in table.now) (records_in work.old) self }
         ensures { Stepped (entries_in table.now) (records_in work.old) (records_in work.new) self result }
     {
         let aim = self.aim(table, work);
         let plan = aim.plan;
         if contraction::fits(work, plan, aim.hole.r - aim.hole.l - MOST) {
-            return self.proceed(work, aim);
+            return Some(self.proceed(work, aim));
         }
-        self.stopped = true;
-        self
+        None
     }
 
     // Whether the term is a value.
     pub fn is_value(self) -> bool
         ensures { TellsValue self result }
     {
-        let turn = self.turn;
-        match turn {
-            Turn::Value(_) => true,
-            Turn::Next(_) => false,
-            Turn::Redex(_, _) => false,
-            Turn::Match(_) => false,
-        }
+        matches!(self.turn, Turn::Value(_))
     }
 
     // The focus, brought before the gap where it isn't.

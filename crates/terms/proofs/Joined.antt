@@ -13,18 +13,18 @@ use Rattle.rules.specs.Lists.{pick}
 use Rattle.rules.specs.Kinds.{Kind, unary₁, ternary₃, child_count, kind_of}
 use Rattle.rules.specs.Terms.{Fields, Term, leaf, unary, binary, ternary, root_kind, fields_of, size}
 use Rattle.rules.specs.Binders.{over_first, over_second, binders_first, binders_second}
-use Rattle.rules.specs.FieldUses.{uses, use_number}
+use Rattle.rules.specs.FieldUses.{an_index, uses, use_number}
 use Rattle.rules.specs.FreeBounds.{own_bound, free_bound}
 use Rattle.rules.specs.Values.{plain_kind, plain}
 use Rattle.rules.specs.Format.{Record, no_record}
-use Rattle.rules.proofs.KindTable.{each_kind, kind_back, few_children}
-use Rattle.records.specs.View.{records_in, RecordPut}
+use Rattle.rules.proofs.KindTable.{each_kind, kind_back}
+use Rattle.records.specs.View.{records_in}
 use Rattle.records.proofs.Records.{records_length}
 use Rattle.terms.specs.Children.{kids, sizes, preorders}
 use Rattle.terms.proofs.Children.{kids_count, kids_sizes}
 use Rattle.terms.specs.declared.measuring.Measure.{Measure}
-use Rattle.terms.specs.Preorder.{bound_and_plain, head, There, At, HasTree, Skips}
-use Rattle.terms.specs.Measuring.{binders_over, BoundIs, PlainIs, OwnIndexFits, OwnIs, Joins, RootedAt, HasRooted, MeasuresTree, Relinks, MarksRoot}
+use Rattle.terms.specs.Preorder.{bound_and_plain, head, There, At, HasTree}
+use Rattle.terms.specs.Measuring.{binders_over, OwnIndexFits, OwnIs, Joins, RootedAt, HasRooted, MeasuresTree, Relinks, MarksRoot}
 use Rattle.terms.proofs.Trees.{first_tree, later_trees}
 
 -- `binders_over`
@@ -39,30 +39,8 @@ binds_few k (suc zero) = each_kind (λ k. binders_second k ≤ 2) (omega arith) 
 binds_few k (suc (suc j)) = omega arith
 
 -- `own_bound`
-pub own_index_of : (f : Fields) (k : Kind) → use_number (uses k).a ≡ 1 → own_bound k f ≡ f.a + 1
-own_index_of f = each_kind (λ k. use_number (uses k).a ≡ 1 → own_bound k f ≡ f.a + 1) (omega arith)
-
-own_none_of : (f : Fields) (k : Kind) → use_number (uses k).a ≢ 1 → own_bound k f ≡ 0
-own_none_of f = each_kind (λ k. use_number (uses k).a ≢ 1 → own_bound k f ≡ 0) (omega arith)
-
-module _ (k : Kind) (a n : ℕ) (u : n ≡ use_number (uses k).a) where
-  pub own_fits : n ≡ 1 → OwnIndexFits k a → Fits w16 (a + 1)
-  own_fits p h = omega (arith, h.index (sym u ∙ p))
-
-  pub own_index : n ≡ 1 → OwnIs k a (a + 1)
-  own_index p = record { is = λ f e. omega (arith, own_index_of f k (sym u ∙ p)) }
-
-  pub own_none : n ≢ 1 → OwnIs k a 0
-  own_none p = record { is = λ f e. sym (own_none_of f k (λ q. p (u ∙ q))) }
-
--- `with_child`
-pub joined : (rs : List Record) (m : Measure) (binders e b x y : ℕ) (p q : Bool) → Skips rs m.end e → BoundIs rs m.end b → PlainIs rs m.end p
-    → x ≡ b - binders → y ≡ max m.bound x → q ≡ m.plain && p → Joins rs m binders (record { end = e; bound = y; plain = q })
-joined rs m binders e b x y p q sk bd pl g h i = record {
-  end = λ t a. sk.is t a;
-  bound = λ t a. h ∙ ap (max m.bound) (g ∙ ap (λ z. z - binders) (bd.is t a));
-  plain = λ t a. i ∙ ap (λ z. m.plain && z) (pl.is t a);
-}
+pub own_index_of : (f : Fields) (k : Kind) → (uses k).a ≡ an_index → own_bound k f ≡ f.a + 1
+own_index_of f k u = each_kind (λ k. use_number (uses k).a ≡ 1 → own_bound k f ≡ f.a + 1) (omega arith) k (ap use_number u)
 
 -- The bound b and the answer p, joined with those of children from child j on.
 unfoldable joined_bound : Kind → ℕ → ℕ → List Term → ℕ
@@ -128,13 +106,10 @@ record Rest (rs : List Record) (i : ℕ) (m : Measure) (j : ℕ) (t : Term) : Ty
   bound : free_bound t ≡ joined_bound (root_kind t) j m.bound rest
   plain : plain t ≡ joined_plain m.plain rest
 
-pub record Joining (rs : List Record) (i k : ℕ) (m : Measure) (j : ℕ) : Type 0 where
-  all : (t : Term) → RootedAt rs i t → (kind_of k ≡ root_kind t) × Rest rs i m j t
+pub record Joining (rs : List Record) (i : ℕ) (k : Kind) (m : Measure) (j : ℕ) : Type 0 where
+  all : (t : Term) → RootedAt rs i t → (k ≡ root_kind t) × Rest rs i m j t
   tree : Term
   rooted : RootedAt rs i tree
-
-pub rooted_in : (rs : List Record) (i : ℕ) → HasRooted rs i → i < length rs
-rooted_in rs i h = h.there.within
 
 pub rooted_fits : (s : List ℕ) (i : ℕ) → HasRooted (records_in s) i → length s < 2 ^ 64 → Fits w64 (i + 1)
 rooted_fits s i h b = omega (arith, h.there.within, records_length s)
@@ -146,41 +121,40 @@ own_least (unary k f t) = omega arith
 own_least (binary k f t u) = omega arith
 own_least (ternary k f t s e) = omega arith
 
-module _ (rs : List Record) (i : ℕ) (r : Record) (e : r ≡ get_or rs i no_record) where
-  root_kind_lem : (t : Term) → RootedAt rs i t → kind_of r.kind ≡ root_kind t
-  root_kind_lem t h = ap kind_of (ap (λ x. x.kind) e ∙ h.kind) ∙ kind_back (root_kind t)
+module _ (rs : List Record) (i : ℕ) (r : Record) (e : r ≡ get_or rs i no_record) (k : Kind) (kd : k ≡ kind_of r.kind) where
+  root_kind_lem : (t : Term) → RootedAt rs i t → k ≡ root_kind t
+  root_kind_lem t h = kd ∙ ap kind_of (ap (λ x. x.kind) e ∙ h.kind) ∙ kind_back (root_kind t)
 
   root_index : (t : Term) → RootedAt rs i t → (fields_of t).a ≡ r.fields.a
   root_index t h = sym (ap (λ x. x.fields.a) e ∙ ap (λ x. x.a) h.fields)
 
-  pub index_fits : HasRooted rs i → OwnIndexFits (kind_of r.kind) r.fields.a
+  pub index_fits : HasRooted rs i → OwnIndexFits k r.fields.a
   index_fits h = record {
     index = λ u. omega (
       arith,
-      own_index_of (fields_of h.tree) (root_kind h.tree) (ap (λ k. use_number (uses k).a) (sym (root_kind_lem h.tree h.there)) ∙ u),
+      own_index_of (fields_of h.tree) (root_kind h.tree) (ap (λ k. (uses k).a) (sym (root_kind_lem h.tree h.there)) ∙ u),
       own_least h.tree,
       h.there.low,
       root_index h.tree h.there,
     );
   }
 
-  pub joining_starts : (b : ℕ) (p : Bool) → OwnIs (kind_of r.kind) r.fields.a b → p ≡ plain_kind (kind_of r.kind) → HasRooted rs i
-      → Joining rs i r.kind (record { end = i + 1; bound = b; plain = p }) 0
+  pub joining_starts : (b : ℕ) (p : Bool) → OwnIs k r.fields.a b → p ≡ plain_kind k → HasRooted rs i → Joining rs i k (record { end = i + 1; bound = b; plain = p }) 0
   joining_starts b p o q h = record { all = λ t g. (root_kind_lem t g, begin t g); tree = h.tree; rooted = h.there }
     where
       begin : (t : Term) → RootedAt rs i t → Rest rs i (record { end = i + 1; bound = b; plain = p }) 0 t
-      begin t g = let k = root_kind_lem t g in
+      begin t g = let n = root_kind_lem t g in
           record {
             rest = kids t;
             there = g.children;
             count = omega (arith, kids_count t);
             place = omega (arith, kids_sizes t);
-            bound = bound_joined t ∙ ap (λ x. joined_bound (root_kind t) 0 x (kids t)) (sym (o.is (fields_of t) (root_index t g) ∙ ap (λ x. own_bound x (fields_of t)) k));
-            plain = plain_joined t ∙ ap (λ x. joined_plain x (kids t)) (sym (q ∙ ap plain_kind k));
+            bound = bound_joined t ∙ ap (λ x. joined_bound (root_kind t) 0 x (kids t)) (sym (o.is (fields_of t) (root_index t g) ∙ ap (λ x. own_bound x (fields_of t)) n));
+            plain = plain_joined t ∙ ap (λ x. joined_plain x (kids t)) (sym (q ∙ ap plain_kind n));
           }
 
 -- One turn.
-module _ (rs : List Record) (i k : ℕ) (m : Measure) (j c : ℕ) (r : Joining rs i k m j) (n : c ≡ child_count (kind_of k)) where
+module _ (rs : List Record) (i : ℕ) (k : Kind) (m : Measure) (j c : ℕ) (r : Joining rs i k m j) (n : c ≡ child_count k) where
   record Turn (t : Term) : Type 0 where
     child : Term
     later : List Term
@@ -195,7 +169,7 @@ module _ (rs : List Record) (i k : ℕ) (m : Measure) (j c : ℕ) (r : Joining r
   unfolding sizes joined_bound joined_plain
   turn l t g = let (e, q) = r.all t g in go e q.rest q.there q.count q.place q.bound q.plain
     where
-      go : kind_of k ≡ root_kind t → (us : List Term) → There rs m.end (preorders us) → j + length us ≡ child_count (root_kind t) → m.end + sizes us ≡ i + size t
+      go : k ≡ root_kind t → (us : List Term) → There rs m.end (preorders us) → j + length us ≡ child_count (root_kind t) → m.end + sizes us ≡ i + size t
           → free_bound t ≡ joined_bound (root_kind t) j m.bound us → plain t ≡ joined_plain m.plain us → Turn t
       go e [] h o f b p = absurd (omega (arith, ap child_count e))
       go e (u ∷ us) h o f b p = record {
@@ -212,10 +186,7 @@ module _ (rs : List Record) (i k : ℕ) (m : Measure) (j c : ℕ) (r : Joining r
   pub turn_tree : j < c → HasTree rs m.end
   turn_tree l = let q = turn l r.tree r.rooted in record { tree = q.child; there = q.there }
 
-  pub turn_count : j < c → Fits w16 (j + 1)
-  turn_count l = omega (arith, few_children (kind_of k))
-
-  pub turn_next : (o : ℕ) (m' : Measure) → j < c → o ≡ binders_over (kind_of k) j → Joins rs m o m' → Joining rs i k m' (j + 1)
+  pub turn_next : (o : ℕ) (m' : Measure) → j < c → o ≡ binders_over k j → Joins rs m o m' → Joining rs i k m' (j + 1)
   turn_next o m' l b w = record { all = λ t g. ((r.all t g).0, next t g); tree = r.tree; rooted = r.rooted }
     where
       next : (t : Term) → RootedAt rs i t → Rest rs i m' (j + 1) t
@@ -240,16 +211,12 @@ module _ (rs : List Record) (i k : ℕ) (m : Measure) (j c : ℕ) (r : Joining r
       ended : (t : Term) → RootedAt rs i t → (m.end ≡ i + size t) × (m.bound ≡ free_bound t) × (m.plain ≡ plain t)
       ended t g = let (e, q) = r.all t g in last e q.rest q.count q.place q.bound q.plain
         where
-          last : kind_of k ≡ root_kind t → (us : List Term) → j + length us ≡ child_count (root_kind t) → m.end + sizes us ≡ i + size t
+          last : k ≡ root_kind t → (us : List Term) → j + length us ≡ child_count (root_kind t) → m.end + sizes us ≡ i + size t
               → free_bound t ≡ joined_bound (root_kind t) j m.bound us → plain t ≡ joined_plain m.plain us → (m.end ≡ i + size t) × (m.bound ≡ free_bound t) × (m.plain ≡ plain t)
           last e [] o f b p = (omega arith, sym b, sym p)
           last e (u ∷ us) o f b p = absurd (omega (arith, ap child_count e))
 
--- `relink`, `mark_root`
-pub relinked : (s s' : List ℕ) (i n b : ℕ) (f r : Record) → f ≡ get_or (records_in s) i no_record → r ≡ record { kind = f.kind; fields = f.fields; first = n; next = b } → RecordPut s i r s'
-    → Relinks (records_in s) (records_in s') i n b
-relinked s s' i n b f r e q p = record { is = p.things ∙ ap (set (records_in s) i) (q ∙ ap (λ x. record { kind = x.kind; fields = x.fields; first = n; next = b }) e) }
-
+-- `mark_root`
 module _ (rs : List Record) (i : ℕ) (m : Measure) (q : MeasuresTree rs i m) where
   pub mark_down : HasRooted rs i → i ≤ m.end
   mark_down h = omega (arith, q.end h.tree h.there)
@@ -271,4 +238,4 @@ module _ (rs : List Record) (i : ℕ) (m : Measure) (q : MeasuresTree rs i m) wh
 
 pub ruleset marking = (mark_down, mark_cast, mark_low, root_marked)
 
-pub ruleset joining = (rooted_in, rooted_fits, index_fits, joining_starts, turn_tree, turn_count, turn_next, joining_ends)
+pub ruleset joining = (rooted_fits, index_fits, joining_starts, turn_tree, turn_next, joining_ends)

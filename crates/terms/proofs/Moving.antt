@@ -69,7 +69,4 @@ module _ (s : List ℕ) (src dst n : ℕ) (h : CanMove (records_in s) src dst n)
     pub move_write_fits : Fits w64 (dst + i)
     move_write_fits = omega (arith, h.to, records_length s)
 
-    pub move_next_fits : Fits w64 (i + 1)
-    move_next_fits = omega (arith, h.to, records_length s)
-
-pub ruleset moving = (move_starts, move_reads, move_writes, move_goes_on, move_ends, move_read_fits, move_write_fits, move_next_fits)
+pub ruleset moving = (move_starts, move_reads, move_writes, move_goes_on, move_ends, move_read_fits, move_write_fits)

@@ -1,12 +1,14 @@
 -- What is read of a tree's measures, and how they are made of a root and its children's.
 use Rattle.std.specs.Prelude.{ℕ, zero, suc, ◌+◌, ◌-◌, ◌*◌, ◌≤◌, ◌<◌, max, List, Bool, ◌&&◌, ◌≡◌, length, get_or, set}
-use Rattle.rules.specs.Kinds.{Kind, kind_number}
+use Rattle.rules.specs.Kinds.{Kind, kind_number, kind_of}
 use Rattle.rules.specs.Terms.{Fields, Term, root_kind, fields_of, size}
 use Rattle.rules.specs.Binders.{binders_first, binders_second}
-use Rattle.rules.specs.FieldUses.{uses, use_number}
+use Rattle.rules.specs.FieldUses.{an_index, uses}
 use Rattle.rules.specs.FreeBounds.{own_bound, free_bound}
 use Rattle.rules.specs.Values.{plain}
 use Rattle.rules.specs.Format.{Record, no_record}
+use Rattle.kinds.specs.declared.names.Kind.{Kind as NamedKind}
+use Rattle.kinds.specs.Named.{kind_meant, IsKind}
 use Rattle.terms.specs.Children.{kids, preorders}
 use Rattle.terms.specs.declared.measuring.Measure.{Measure}
 use Rattle.terms.specs.Preorder.{head, There, At}
@@ -16,9 +18,14 @@ use Rattle.terms.specs.Preorder.{head, There, At}
 abbrev pub Low : ℕ → Term → Type 0
 Low n t = free_bound t + 2 * size t ≤ n
 
--- k is the kind of the record at i.
-pub record KindIs (rs : List Record) (i k : ℕ) : Type 0 where
-  pub is : k ≡ (get_or rs i no_record).kind
+-- The record at i has a known kind.
+pub record HasKind (rs : List Record) (i : ℕ) : Type 0 where
+  pub within : i < length rs
+  pub known : IsKind (get_or rs i no_record).kind
+
+-- k names the kind of the record at i.
+pub record KindIs (rs : List Record) (i : ℕ) (k : NamedKind) : Type 0 where
+  pub is : kind_meant k ≡ kind_of (get_or rs i no_record).kind
 
 -- b is the free bound of the tree at i, and p says whether it is plain.
 pub record BoundIs (rs : List Record) (i b : ℕ) : Type 0 where
@@ -35,7 +42,7 @@ binders_over k (suc (suc j)) = 0
 
 -- The index a of a record of kind k can be counted from 1, where it has one.
 pub record OwnIndexFits (k : Kind) (a : ℕ) : Type 0 where
-  pub index : use_number (uses k).a ≡ 1 → a + 1 < 65536
+  pub index : (uses k).a ≡ an_index → a + 1 < 65536
 
 -- b is what the index a of a record of kind k adds to the bound of its tree.
 pub record OwnIs (k : Kind) (a b : ℕ) : Type 0 where

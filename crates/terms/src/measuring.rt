@@ -1,11 +1,12 @@
 // The measures of trees: read at their roots, and written there from those of the root's children.
 ghost use Rattle.std.specs.Prelude.{◌≡◌, ◌+◌, ◌-◌, ◌*◌, ◌<◌, length};
 ghost use Rattle.rules.specs.Lists.{pick};
-ghost use Rattle.rules.specs.Kinds.{kind_of};
+ghost use Rattle.kinds.specs.Named.{kind_meant};
 ghost use Rattle.records.specs.View.{records_in};
 ghost use Rattle.terms.specs.Preorder.{HasTree, Skips};
-ghost use Rattle.terms.specs.Measuring.{binders_over, KindIs, BoundIs, PlainIs, OwnIndexFits, OwnIs, Joins, HasRooted, MeasuresTree, Relinks, MarksRoot};
+ghost use Rattle.terms.specs.Measuring.{binders_over, HasKind, KindIs, BoundIs, PlainIs, OwnIndexFits, OwnIs, Joins, HasRooted, MeasuresTree, Relinks, MarksRoot};
 
+use kinds::{Kind, Use};
 use records::Record;
 
 // What is known of a tree and of as many of its children as stand before `end`: how far their free indices reach, and whether they are plain.
@@ -17,12 +18,21 @@ struct Measure {
 }
 
 // The kind of the record at `i`.
-pub fn kind_at(w: &[u8], i: usize) -> u16
+pub fn kind_at(w: &[u8], i: usize) -> Kind
     requires { i < length (records_in w.now) }
     ensures { KindIs (records_in w.now) i result }
 {
     let r = records::get(w, i);
-    r.kind
+    Kind::of(r.kind)
+}
+
+// The same of a record that has a known kind, as a tree's root and a frame's record have.
+pub fn root_kind(w: &[u8], i: usize) -> Kind
+    requires { HasKind (records_in w.now) i }
+    ensures { KindIs (records_in w.now) i result }
+{
+    let r = records::get(w, i);
+    Kind::known(r.kind)
 }
 
 // The place after the tree at `i`.
@@ -60,22 +70,26 @@ pub fn without(x: u16, m: u16) -> u16
 }
 
 // How many variables a record of this kind binds over its child `j`, counted from 0.
-pub fn binders_over(kind: u16, j: u16) -> u16
-    ensures { result ≡ binders_over (kind_of kind) j }
+pub fn binders_over(kind: Kind, j: u16) -> u16
+    ensures { result ≡ binders_over (kind_meant kind) j }
 {
     match j {
-        0 => kinds::binders_first(kind),
-        1 => kinds::binders_second(kind),
+        0 => kind.binders_first(),
+        1 => kind.binders_second(),
         _ => 0,
     }
 }
 
 // What a record's own index adds to the bound of its tree.
-fn own_bound(kind: u16, a: u16) -> u16
-    requires { OwnIndexFits (kind_of kind) a }
-    ensures { OwnIs (kind_of kind) a result }
+fn own_bound(kind: Kind, a: u16) -> u16
+    requires { OwnIndexFits (kind_meant kind) a }
+    ensures { OwnIs (kind_meant kind) a result }
 {
-    if kinds::use_of_a(kind) == 1 { a + 1 } else { 0 }
+    if kind.use_of_a() == Use::Index {
+        a + 1
+    } else {
+        0
+    }
 }
 
 // The measure `m`, joined with the child that stands at its end, over which so many variables are bound.
@@ -88,8 +102,8 @@ fn with_child(w: &[u8], m: Measure, binders: u16) -> Measure
     let plain = is_plain_at(w, i);
     Measure {
         end: skip(w, i),
-        bound: kinds::larger(m.bound, without(bound, binders)),
-        plain: kinds::both(m.plain, plain),
+        bound: m.bound.max(bound.saturating_sub(binders)),
+        plain: m.plain & plain,
     }
 }
 
@@ -99,17 +113,14 @@ fn measured(w: &[u8], i: usize) -> Measure
     ensures { MeasuresTree (records_in w.now) i result }
 {
     let r = records::get(w, i);
-    let kind = r.kind;
-    let children = kinds::children(kind);
+    let kind = Kind::known(r.kind);
     let mut m = Measure {
         end: i + 1,
         bound: own_bound(kind, r.a),
-        plain: kinds::is_plain(kind),
+        plain: kind.is_plain(),
     };
-    let mut j: u16 = 0;
-    while j < children {
+    for j in 0..kind.children() {
         m = with_child(w, m, binders_over(kind, j));
-        j += 1;
     }
     m
 }
@@ -128,16 +139,7 @@ pub fn relink(w: &mut [u8], i: usize, first: u16, next: u16)
     ensures { Relinks (records_in w.old) (records_in w.new) i first next }
 {
     let r = records::get(w, i);
-    let q = Record {
-        kind: r.kind,
-        ty: r.ty,
-        a: r.a,
-        b: r.b,
-        first,
-        next,
-        value: r.value,
-    };
-    records::put(w, i, q);
+    records::put(w, i, Record { first, next, ..r });
 }
 
 // Writes the measures of the tree whose root is at `i` to its root. Returns the place after the tree.
