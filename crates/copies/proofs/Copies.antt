@@ -9,14 +9,14 @@ use mathlib.Core.Logic.{inl, inr, ⊎_elim}
 use mathlib.Core.Path.{◌≡◌, refl, sym, ap, ◌∙◌}
 use lib.ListN.{length, get_or, set, length-set}
 use lib.Seq.{get_or-set_same}
-use mir.Syntax.{w16, w64}
+use mir.Syntax.{w64}
 use mir.Val.{Fits}
 use Rattle.rules.specs.Kinds.{number, variable, Kind, child_count, kind_number, kind_of}
 use Rattle.rules.specs.Terms.{Fields, Term, leaf, unary, binary, ternary, root_kind, fields_of, size}
 use Rattle.rules.specs.FreeBounds.{free_bound}
 use Rattle.rules.specs.Indices.{Change, with_index, changed, names_removed}
 use Rattle.rules.specs.Format.{Record, no_record}
-use Rattle.rules.proofs.KindTable.{kind_back, few_children}
+use Rattle.rules.proofs.KindTable.{kind_back}
 use Rattle.rules.proofs.Laid.{size_some}
 use Rattle.rules.proofs.FreeBounds.{KeepsLow, changed_low}
 use Rattle.records.specs.View.{records_in}
@@ -260,15 +260,9 @@ module _ (M : Way) (m : ℕ) (moved : ℕ → ℕ → ℕ) (S : Sound M m moved)
   pub turn_tree : HasTree rs at
   turn_tree = record { tree = child p.tree j; there = (next_copy p.tree p.of).there }
 
-  pub turn_count : Fits w16 (j + 1)
-  turn_count = omega (arith, few_children k)
-
   module _ (u : ℕ) (b : u ≡ binders_over k j) where
     pub over : (t : Term) → RootOf M m rs₁ src dst d k t → u ≡ binders_over (root_kind t) j
     over t g = b ∙ ap (λ x. binders_over x j) g.rooted.kind
-
-    pub turn_deep : Fits w16 (d + u)
-    turn_deep = omega (arith, p.of.rooted.fits.low, b, binds_few k j)
 
     pub turn_can : CanCopy M rs at to (d + u)
     turn_can =
@@ -353,9 +347,6 @@ module _ (M : Way) (m : ℕ) (moved : ℕ → ℕ → ℕ) (S : Sound M m moved)
 -- Places and lengths.
 pub copy_from_fits : (M : Way) (s : List ℕ) (src dst d : ℕ) → CanCopy M (records_in s) src dst d → length s < 2 ^ 64 → Fits w64 (src + 1)
 copy_from_fits M s src dst d h b = omega (arith, copy_in M (records_in s) src dst d h, records_length s)
-
-pub copy_to_fits : (M : Way) (s : List ℕ) (src dst d : ℕ) → CanCopy M (records_in s) src dst d → length s < 2 ^ 64 → Fits w64 (dst + 1)
-copy_to_fits M s src dst d h b = omega (arith, copy_to M (records_in s) src dst d h, records_length s)
 
 pub copy_falls : (M : Way) (m : ℕ) (moved : ℕ → ℕ → ℕ) → Sound M m moved → (s₁ : List ℕ) (src dst d : ℕ) (k : Kind) (s : List ℕ) (at to j n : ℕ) → Copying M m (records_in s₁) src dst d k (records_in s) at to j
     → n ≡ child_count k → j < n → (s₀ : List ℕ) → length s₁ ≡ length s₀ → (q : ℕ) → length (records_in s₀) - src ≡ q → length (records_in s) - at < q

@@ -34,7 +34,7 @@ use Rattle.copies.specs.Wrapping.{spliced_use, wrapping_under, Wrapping, PutsUse
 use Rattle.copies.proofs.RaisedRoots.{size_raised, index_fits}
 use Rattle.copies.proofs.Parts.{named_other, root_known, root_moves}
 use Rattle.terms.proofs.Puts.{put_before}
-use Rattle.copies.proofs.Copies.{Sound, read_root, read_bound, read_kind, copy_in, copy_to, block_can, block_does, Copying, copy_starts, turn_tree, turn_deep, turn_can, turn_next, copy_rooted, copy_ends, copy_from_fits, copy_falls}
+use Rattle.copies.proofs.Copies.{Sound, read_root, read_bound, read_kind, copy_in, copy_to, block_can, block_does, Copying, copy_starts, turn_tree, turn_can, turn_next, copy_rooted, copy_ends, copy_from_fits, copy_falls}
 
 -- Raising after wrapping is one walk.
 module _ (n code : ℕ) where
