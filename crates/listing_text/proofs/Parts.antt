@@ -5,8 +5,9 @@ use native.Mathlib.Numerals.{add-one}
 use native.Mathlib.Omega.{arith}
 use mathlib.Core.Path.{◌≡◌, refl, sym, ap, ap₂, ◌∙◌}
 use mathlib.Core.List.{List, [], ◌∷◌, ◌++◌}
-use lib.ListN.{length, set, take-append-drop, length-append}
-use lib.Seq.{set_split}
+use lib.ListN.{length, set, take, take-append-drop, length-append}
+use lib.Seq.{set_split, drop-drop}
+use borrow.Rule.Slice.PartMut.{put_mid}
 use Rattle.records.specs.Overwritten.{overwritten}
 use Rattle.records.proofs.Overwriting.{overwritten_length, overwritten_twice}
 use Rattle.listing_text.specs.Parts.{RoomForPart, WroteText}
@@ -19,6 +20,15 @@ nothing_wrote s at h = record { enough = omega arith; bytes = rw (add-zero at) (
 pub byte_wrote : (s : List ℕ) (at b : ℕ) → RoomForPart s at (b ∷ []) → WroteText s at (b ∷ []) (set s at b) (at + 1)
 unfolding overwritten
 byte_wrote s at b h = record { enough = h.enough; bytes = rw (add-one at) (set_split s at b (omega (arith, h.enough))); ends = refl }
+
+-- A word that is copied into the place of as many bytes.
+pub word_wrote : (s : List ℕ) (at : ℕ) (word ys : List ℕ) (k : ℕ) → RoomForPart s at word → ys ≡ word → k ≡ length word → WroteText s at word (put_mid at k s ys) (at + length word)
+unfolding overwritten
+word_wrote s at word ys k h e l = record {
+  enough = h.enough;
+  bytes = ap₂ (λ n zs. put_mid at n s zs) l e ∙ ap (λ x. take at s ++ (word ++ x)) (drop-drop (length word) at s);
+  ends = refl;
+}
 
 -- A part, and another behind it.
 pub room_first : (s : List ℕ) (at : ℕ) (vs ws : List ℕ) → RoomForPart s at (vs ++ ws) → RoomForPart s at vs

@@ -27,13 +27,9 @@ fn put_word(text: &mut [u8], at: usize, word: &[u8]) -> usize
     requires { RoomForPart text.old at word.now }
     ensures { WroteText text.old at word.now text.new result }
 {
-    let mut place = at;
-    let mut i = 0;
-    while i < word.len() {
-        place = put_byte(text, place, word[i]);
-        i += 1;
-    }
-    place
+    let end = at + word.len();
+    text[at..end].copy_from_slice(word);
+    end
 }
 
 // The digit of a number below 10.
@@ -71,10 +67,8 @@ fn put_numbers(text: &mut [u8], at: usize, ns: &[u32]) -> usize
     ensures { WroteText text.old at (numbers ns.now) text.new result }
 {
     let mut place = at;
-    let mut i = 0;
-    while i < ns.len() {
-        place = put_spaced(text, place, ns[i]);
-        i += 1;
+    for n in ns {
+        place = put_spaced(text, place, *n);
     }
     put_byte(text, place, b'\n')
 }
@@ -124,11 +118,10 @@ fn put_records(text: &mut [u8], at: usize, records: &[u8], count: usize) -> usiz
     ensures { WroteText text.old at (record_lines 1 (records_in records.now)) text.new result }
 {
     let mut place = at;
-    let mut i = 0;
-    while i < count {
+    for i in 0..count {
+        let n = (i + 1) as u32;
         let r = records::get(records, i);
-        i += 1;
-        place = put_record(text, place, i as u32, r);
+        place = put_record(text, place, n, r);
     }
     place
 }
