@@ -5,11 +5,12 @@
 ghost use Rattle.std.specs.Prelude.{[], ◌∷◌, ◌<◌};
 ghost use Rattle.records.specs.View.{records_in};
 ghost use Rattle.records.specs.Meant.{record_meant};
-ghost use Rattle.listing_text.specs.Decimal.{IsDigit, decimal};
+ghost use Rattle.listing_text.specs.Decimal.{decimal};
 ghost use Rattle.listing_text.specs.Text.{spaced, numbers, ending_word, refused_text, first_line, record_line, record_lines, accepted_text};
 ghost use Rattle.listing_text.specs.Parts.{RoomForPart, WroteText};
 ghost use Rattle.listing_text.specs.Buffers.{RoomForRecords, OneLine, Listable, Prints};
 
+use itoa::Buffer;
 use records::Record;
 
 // One byte.
@@ -32,24 +33,13 @@ fn put_word(text: &mut [u8], at: usize, word: &[u8]) -> usize
     end
 }
 
-// The digit of a number below 10.
-fn digit_of(n: u32) -> u8
-    requires { n < 10 }
-    ensures { IsDigit n result }
-{
-    (48 + n) as u8
-}
-
-// The digits of a number: those of its tens, then that of its ones.
+// The digits of a number. By `write!` they would be promised only where it returns Ok, and nothing says that it does.
 fn put_decimal(text: &mut [u8], at: usize, n: u32) -> usize
     requires { RoomForPart text.old at (decimal n) }
     ensures { WroteText text.old at (decimal n) text.new result }
 {
-    if n < 10 {
-        return put_byte(text, at, digit_of(n));
-    }
-    let place = put_decimal(text, at, n / 10);
-    put_byte(text, place, digit_of(n % 10))
+    let mut buffer = Buffer::new();
+    put_word(text, at, buffer.format(n).as_bytes())
 }
 
 // A space and a number.
