@@ -13,23 +13,13 @@ ghost use Rattle.listing_text.specs.Buffers.{RoomForRecords, OneLine, Listable, 
 use itoa::Buffer;
 use records::Record;
 
-// One byte.
-fn put_byte(text: &mut [u8], at: usize, byte: u8) -> usize
-    requires { RoomForPart text.old at (byte ∷ []) }
-    ensures { WroteText text.old at (byte ∷ []) text.new result }
+// These bytes.
+fn put_bytes(text: &mut [u8], at: usize, bytes: &[u8]) -> usize
+    requires { RoomForPart text.old at bytes.now }
+    ensures { WroteText text.old at bytes.now text.new result }
 {
-    let next = at + 1;
-    text[at] = byte;
-    next
-}
-
-// The bytes of a word.
-fn put_word(text: &mut [u8], at: usize, word: &[u8]) -> usize
-    requires { RoomForPart text.old at word.now }
-    ensures { WroteText text.old at word.now text.new result }
-{
-    let end = at + word.len();
-    text[at..end].copy_from_slice(word);
+    let end = at + bytes.len();
+    text[at..end].copy_from_slice(bytes);
     end
 }
 
@@ -39,7 +29,7 @@ fn put_decimal(text: &mut [u8], at: usize, n: u32) -> usize
     ensures { WroteText text.old at (decimal n) text.new result }
 {
     let mut buffer = Buffer::new();
-    put_word(text, at, buffer.format(n).as_bytes())
+    put_bytes(text, at, buffer.format(n).as_bytes())
 }
 
 // A space and a number.
@@ -47,7 +37,7 @@ fn put_spaced(text: &mut [u8], at: usize, n: u32) -> usize
     requires { RoomForPart text.old at (spaced n) }
     ensures { WroteText text.old at (spaced n) text.new result }
 {
-    let place = put_byte(text, at, b' ');
+    let place = put_bytes(text, at, b" ");
     put_decimal(text, place, n)
 }
 
@@ -60,7 +50,7 @@ fn put_numbers(text: &mut [u8], at: usize, ns: &[u32]) -> usize
     for n in ns {
         place = put_spaced(text, place, *n);
     }
-    put_byte(text, place, b'\n')
+    put_bytes(text, place, b"\n")
 }
 
 // The word of an ending.
@@ -69,9 +59,9 @@ fn put_ending(text: &mut [u8], ending: u32) -> usize
     ensures { WroteText text.old 0 (ending_word ending) text.new result }
 {
     match ending {
-        1 => put_word(text, 0, b"value"),
-        2 => put_word(text, 0, b"spent"),
-        _ => put_word(text, 0, b"full"),
+        1 => put_bytes(text, 0, b"value"),
+        2 => put_bytes(text, 0, b"spent"),
+        _ => put_bytes(text, 0, b"full"),
     }
 }
 
@@ -121,7 +111,7 @@ pub fn refused_text(number: u32, place: u32, text: &mut [u8]) -> usize
     requires { OneLine text.old }
     ensures { Prints text.old (refused_text number place) text.new result }
 {
-    let at = put_word(text, 0, b"refused");
+    let at = put_bytes(text, 0, b"refused");
     put_numbers(text, at, &[number, place])
 }
 

@@ -12,8 +12,8 @@ put_spaced-place-requires c = search (numbering, rules)
 pub loop-n-preserved : goal.loop-n-preserved
 loop-n-preserved c = search (numbering, rules)
 
-pub put_byte-requires : goal.put_byte-requires
-put_byte-requires c = search (numbering, rules)
+pub put_bytes-requires : goal.put_bytes-requires
+put_bytes-requires c = search (numbering, rules)
 
 pub returns : goal.returns
 returns c = search (numbering, rules)
