@@ -9,14 +9,14 @@ use mathlib.Core.Logic.{inl, inr, ⊎_elim}
 use mathlib.Core.Path.{◌≡◌, refl, sym, ap, ◌∙◌}
 use lib.ListN.{length, get_or, set, length-set}
 use lib.Seq.{get_or-set_same}
-use mir.Syntax.{w16, w64}
+use mir.Syntax.{w64}
 use mir.Val.{Fits}
-use Rattle.rules.specs.Kinds.{number, variable, child_count, kind_number, kind_of}
+use Rattle.rules.specs.Kinds.{number, variable, Kind, child_count, kind_number, kind_of}
 use Rattle.rules.specs.Terms.{Fields, Term, leaf, unary, binary, ternary, root_kind, fields_of, size}
 use Rattle.rules.specs.FreeBounds.{free_bound}
 use Rattle.rules.specs.Indices.{Change, with_index, changed, names_removed}
 use Rattle.rules.specs.Format.{Record, no_record}
-use Rattle.rules.proofs.KindTable.{kind_back, few_children}
+use Rattle.rules.proofs.KindTable.{kind_back}
 use Rattle.rules.proofs.Laid.{size_some}
 use Rattle.rules.proofs.FreeBounds.{KeepsLow, changed_low}
 use Rattle.records.specs.View.{records_in}
@@ -139,8 +139,8 @@ module _ (M : Way) (m : ℕ) (moved : ℕ → ℕ → ℕ) (S : Sound M m moved)
   }
 
 -- The root is written, the children are left.
-pub record Rooted (m : ℕ) (c : Change) (b : ℕ) (rs : List Record) (lo hi src dst d k : ℕ) (t : Term) : Type 0 where
-  pub kind : kind_of k ≡ root_kind t
+pub record Rooted (m : ℕ) (c : Change) (b : ℕ) (rs : List Record) (lo hi src dst d : ℕ) (k : Kind) (t : Term) : Type 0 where
+  pub kind : k ≡ root_kind t
   pub unnamed : (f : Fields) → t ≡ leaf variable f → names_removed m d f.a ≡ false
   pub kept : Kept c d t
   pub root_kind_lem : (get_or rs dst no_record).kind ≡ kind_number (root_kind (changed c d t))
@@ -148,7 +148,7 @@ pub record Rooted (m : ℕ) (c : Change) (b : ℕ) (rs : List Record) (lo hi src
   pub children : There rs (src + 1) (preorders (kids t))
   pub fits : Fitting c b (length rs) lo hi src dst d t
 
-pub record RootOf (M : Way) (m : ℕ) (rs : List Record) (src dst d k : ℕ) (t : Term) : Type 0 where
+pub record RootOf (M : Way) (m : ℕ) (rs : List Record) (src dst d : ℕ) (k : Kind) (t : Term) : Type 0 where
   pub lo : ℕ
   pub hi : ℕ
   pub reach : ℕ
@@ -170,7 +170,7 @@ record Left (c : Change) (lo hi : ℕ) (rs₁ rs : List Record) (src dst d at to
   stays : Stays lo hi rs₁ rs
   written : puts rs to (preorders (changed_children c d (root_kind t) j (after t j))) ≡ puts rs₁ (dst + 1) (preorders (changed_children c d (root_kind t) 0 (kids t)))
 
-pub record Copying (M : Way) (m : ℕ) (rs₁ : List Record) (src dst d k : ℕ) (rs : List Record) (at to j : ℕ) : Type 0 where
+pub record Copying (M : Way) (m : ℕ) (rs₁ : List Record) (src dst d : ℕ) (k : Kind) (rs : List Record) (at to j : ℕ) : Type 0 where
   all : (t : Term) (o : RootOf M m rs₁ src dst d k t) → Left o.change o.lo o.hi rs₁ rs src dst d at to j t
   pub tree : Term
   pub of : RootOf M m rs₁ src dst d k tree
@@ -181,7 +181,7 @@ module _ (M : Way) (m : ℕ) (moved : ℕ → ℕ → ℕ) (S : Sound M m moved)
   pub stays_root : (lo hi b : ℕ) (c : Change) (t : Term) → CopyAt c b rs lo hi src dst d t → Stays lo hi rs rs₁
   stays_root lo hi b c t h = rw w.is (stays_set lo hi rs dst _ h.fits.start (omega (arith, h.fits.room, size_some (changed c d t))))
 
-  pub rooted_of : (lo hi b : ℕ) (c : Change) (t : Term) → M rs lo hi c b → CopyAt c b rs lo hi src dst d t → Rooted m c b rs₁ lo hi src dst d r.kind t
+  pub rooted_of : (lo hi b : ℕ) (c : Change) (t : Term) → M rs lo hi c b → CopyAt c b rs lo hi src dst d t → Rooted m c b rs₁ lo hi src dst d (kind_of r.kind) t
   rooted_of lo hi b c t s h =
       let f = h.fits in
       let z = size_some (changed c d t) in
@@ -205,10 +205,10 @@ module _ (M : Way) (m : ℕ) (moved : ℕ → ℕ → ℕ) (S : Sound M m moved)
       told : Spot m d t false → (f : Fields) → t ≡ leaf variable f → names_removed m d f.a ≡ false
       told (kept a) = a
 
-  abbrev pub root_of : (lo hi b : ℕ) (c : Change) (t : Term) → M rs lo hi c b → CopyAt c b rs lo hi src dst d t → RootOf M m rs₁ src dst d r.kind t
+  abbrev pub root_of : (lo hi b : ℕ) (c : Change) (t : Term) → M rs lo hi c b → CopyAt c b rs lo hi src dst d t → RootOf M m rs₁ src dst d (kind_of r.kind) t
   root_of lo hi b c t s h = record { lo = lo; hi = hi; reach = b; change = c; meant = S.stays rs rs₁ lo hi b c (stays_root lo hi b c t h) s; rooted = rooted_of lo hi b c t s h }
 
-  pub copy_starts : CanCopy M rs src dst d → Copying M m rs₁ src dst d r.kind rs₁ (src + 1) (dst + 1) 0
+  pub copy_starts : CanCopy M rs src dst d → Copying M m rs₁ src dst d (kind_of r.kind) rs₁ (src + 1) (dst + 1) 0
   unfolding after
   copy_starts h = record {
     all = λ t g. record {
@@ -223,8 +223,8 @@ module _ (M : Way) (m : ℕ) (moved : ℕ → ℕ → ℕ) (S : Sound M m moved)
   }
 
 -- A turn of the loop.
-module _ (M : Way) (m : ℕ) (moved : ℕ → ℕ → ℕ) (S : Sound M m moved) (rs₁ : List Record) (src dst d k : ℕ) (rs : List Record) (at to j n : ℕ) (p : Copying M m rs₁ src dst d k rs at to j)
-    (o : n ≡ child_count (kind_of k)) (l : j < n) where
+module _ (M : Way) (m : ℕ) (moved : ℕ → ℕ → ℕ) (S : Sound M m moved) (rs₁ : List Record) (src dst d : ℕ) (k : Kind) (rs : List Record) (at to j n : ℕ) (p : Copying M m rs₁ src dst d k rs at to j)
+    (o : n ≡ child_count k) (l : j < n) where
   module _ (t : Term) (g : RootOf M m rs₁ src dst d k t) where
     pub next_one : j < child_count (root_kind t)
     next_one = omega (arith, o, ap child_count g.rooted.kind)
@@ -260,15 +260,9 @@ module _ (M : Way) (m : ℕ) (moved : ℕ → ℕ → ℕ) (S : Sound M m moved)
   pub turn_tree : HasTree rs at
   turn_tree = record { tree = child p.tree j; there = (next_copy p.tree p.of).there }
 
-  pub turn_count : Fits w16 (j + 1)
-  turn_count = omega (arith, few_children (kind_of k))
-
-  module _ (u : ℕ) (b : u ≡ binders_over (kind_of k) j) where
+  module _ (u : ℕ) (b : u ≡ binders_over k j) where
     pub over : (t : Term) → RootOf M m rs₁ src dst d k t → u ≡ binders_over (root_kind t) j
     over t g = b ∙ ap (λ x. binders_over x j) g.rooted.kind
-
-    pub turn_deep : Fits w16 (d + u)
-    turn_deep = omega (arith, p.of.rooted.fits.low, b, binds_few (kind_of k) j)
 
     pub turn_can : CanCopy M rs at to (d + u)
     turn_can =
@@ -303,8 +297,8 @@ module _ (M : Way) (m : ℕ) (moved : ℕ → ℕ → ℕ) (S : Sound M m moved)
             }
 
 -- All children are copied.
-module _ (M : Way) (m : ℕ) (moved : ℕ → ℕ → ℕ) (S : Sound M m moved) (rs₁ : List Record) (src dst d k : ℕ) (rs : List Record) (at to j n : ℕ) (p : Copying M m rs₁ src dst d k rs at to j)
-    (o : n ≡ child_count (kind_of k)) (l : n ≤ j) where
+module _ (M : Way) (m : ℕ) (moved : ℕ → ℕ → ℕ) (S : Sound M m moved) (rs₁ : List Record) (src dst d : ℕ) (k : Kind) (rs : List Record) (at to j n : ℕ) (p : Copying M m rs₁ src dst d k rs at to j)
+    (o : n ≡ child_count k) (l : n ≤ j) where
   module _ (t : Term) (g : RootOf M m rs₁ src dst d k t) where
     abbrev copies : List Term
     copies = changed_children g.change d (root_kind t) 0 (kids t)
@@ -336,13 +330,13 @@ module _ (M : Way) (m : ℕ) (moved : ℕ → ℕ → ℕ) (S : Sound M m moved)
 -- The copy is whole once its root has its measures.
 module _ (M : Way) (m : ℕ) (moved : ℕ → ℕ → ℕ) (S : Sound M m moved) (rs : List Record) (src dst d : ℕ) (r : Record) (e : r ≡ get_or rs src no_record) (l : d < r.next / 2)
     (n : ℕ) (o : n ≡ child_count (kind_of r.kind)) (x : Bool) (i : x ≡ is_named n m d r.fields.a) (y : x ≡ false) (rs₁ : List Record) (w : MovesRoot (moved d) rs rs₁ dst r) where
-  pub copy_ends : (rs₂ : List Record) (at to j : ℕ) → Copying M m rs₁ src dst d r.kind rs₂ at to j → n ≤ j → (rs₃ : List Record) (end : ℕ) → MarksRoot rs₂ rs₃ dst end → Copies M rs rs₃ src dst d end
+  pub copy_ends : (rs₂ : List Record) (at to j : ℕ) → Copying M m rs₁ src dst d (kind_of r.kind) rs₂ at to j → n ≤ j → (rs₃ : List Record) (end : ℕ) → MarksRoot rs₂ rs₃ dst end → Copies M rs rs₃ src dst d end
   copy_ends rs₂ at to j p q rs₃ end k = record {
     does = λ lo hi b c t s h.
         let g = root_of M m moved S rs src dst d r e l n o x i y rs₁ w lo hi b c t s h in
         let vs = preorders (changed_children c d (root_kind t) 0 (kids t)) in
-        let v = all_written M m moved S rs₁ src dst d r.kind rs₂ at to j n p o q t g in
-        let (f, z) = k.does (changed c d t) (root_there M m moved S rs₁ src dst d r.kind rs₂ at to j n p o q t g) in
+        let v = all_written M m moved S rs₁ src dst d (kind_of r.kind) rs₂ at to j n p o q t g in
+        let (f, z) = k.does (changed c d t) (root_there M m moved S rs₁ src dst d (kind_of r.kind) rs₂ at to j n p o q t g) in
         record {
           records = f ∙ ap (λ u. set u dst (head (changed c d t))) (v ∙ ap (λ u. puts u (dst + 1) vs) w.is) ∙ rewritten rs dst (moved_record (moved d) r) (head (changed c d t)) vs
               ∙ ap (puts rs dst) (sym (copy_records c d t g.rooted.kept));
@@ -354,11 +348,8 @@ module _ (M : Way) (m : ℕ) (moved : ℕ → ℕ → ℕ) (S : Sound M m moved)
 pub copy_from_fits : (M : Way) (s : List ℕ) (src dst d : ℕ) → CanCopy M (records_in s) src dst d → length s < 2 ^ 64 → Fits w64 (src + 1)
 copy_from_fits M s src dst d h b = omega (arith, copy_in M (records_in s) src dst d h, records_length s)
 
-pub copy_to_fits : (M : Way) (s : List ℕ) (src dst d : ℕ) → CanCopy M (records_in s) src dst d → length s < 2 ^ 64 → Fits w64 (dst + 1)
-copy_to_fits M s src dst d h b = omega (arith, copy_to M (records_in s) src dst d h, records_length s)
-
-pub copy_falls : (M : Way) (m : ℕ) (moved : ℕ → ℕ → ℕ) → Sound M m moved → (s₁ : List ℕ) (src dst d k : ℕ) (s : List ℕ) (at to j n : ℕ) → Copying M m (records_in s₁) src dst d k (records_in s) at to j
-    → n ≡ child_count (kind_of k) → j < n → (s₀ : List ℕ) → length s₁ ≡ length s₀ → (q : ℕ) → length (records_in s₀) - src ≡ q → length (records_in s) - at < q
+pub copy_falls : (M : Way) (m : ℕ) (moved : ℕ → ℕ → ℕ) → Sound M m moved → (s₁ : List ℕ) (src dst d : ℕ) (k : Kind) (s : List ℕ) (at to j n : ℕ) → Copying M m (records_in s₁) src dst d k (records_in s) at to j
+    → n ≡ child_count k → j < n → (s₀ : List ℕ) → length s₁ ≡ length s₀ → (q : ℕ) → length (records_in s₀) - src ≡ q → length (records_in s) - at < q
 copy_falls M m moved S s₁ src dst d k s at to j n p o l s₀ y q g =
     let h = p.all p.tree p.of in
     omega (arith, h.row.begun, h.stays.same, records_length s₁, records_length s₀, at_first (records_in s) at _ (turn_tree M m moved S (records_in s₁) src dst d k (records_in s) at to j n p o l).there)

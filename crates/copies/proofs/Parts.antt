@@ -1,24 +1,25 @@
 -- The parts of a copy that wrapping and replacing have in common: a block, and whether a root gives way. `parts` for search.
-use Prim.Native.Nat.{ℕ, ◌+◌, ◌-◌, ◌^◌, ◌≤◌, ◌<◌}
+use Prim.Native.Nat.{ℕ, ◌+◌, ◌^◌, ◌<◌}
 use native.Mathlib.Omega.{arith}
-use native.Mathlib.Decide.{dec_lt}
 use mathlib.Core.List.{List}
 use mathlib.Core.Bool.{Bool, false}
 use mathlib.Core.Logic.{◌≢◌}
-use mathlib.Core.Path.{◌≡◌, sym, ap, ◌∙◌}
-use lib.Dec.{ltb}
+use mathlib.Core.Path.{◌≡◌, ap, ◌∙◌}
 use lib.ListN.{length, get_or, set}
-use borrow.Author.Tests.{lt-ltb, le-ltb, ne_eqb}
+use borrow.Author.Tests.{ne_eqb}
 use mir.Syntax.{w64}
 use mir.Val.{Fits}
-use Rattle.rules.specs.Kinds.{kind_of}
+use Rattle.rules.specs.Kinds.{Kind, kind_of}
+use Rattle.rules.specs.Terms.{Term, root_kind}
 use Rattle.rules.specs.Indices.{with_index, names_removed}
 use Rattle.rules.specs.Format.{Record, no_record}
+use Rattle.rules.proofs.KindTable.{kind_range}
+use Rattle.kinds.specs.Named.{IsKind}
 use Rattle.records.specs.View.{records_in}
 use Rattle.records.proofs.Records.{records_length}
 use Rattle.terms.specs.Moves.{CanMove}
-use Rattle.terms.specs.Preorder.{HasTree}
-use Rattle.terms.proofs.Trees.{at_first, size_read}
+use Rattle.terms.specs.Preorder.{At, HasTree}
+use Rattle.terms.proofs.Trees.{at_first, at_head, size_read}
 use Rattle.copies.specs.Roots.{moved_field}
 use Rattle.copies.specs.Copying.{is_named, TreeSize, MovesRoot, PutsIndexed}
 
@@ -33,15 +34,9 @@ tree_in rs i h = at_first rs i h.tree h.there
 pub tree_read : (rs : List Record) (i : ℕ) (r : Record) → r ≡ get_or rs i no_record → TreeSize rs i r.first
 tree_read rs i r e = record { is = λ t h. ap (λ q. q.first) e ∙ size_read rs i t h }
 
--- `names_removed`
-pub names_inner : (m d i : ℕ) → i < d → false ≡ names_removed m d i
-names_inner m d i h = rw (lt-ltb i d h)
-
-pub names_outer : (m d i : ℕ) → d ≤ i → ltb (i - d) m ≡ names_removed m d i
-names_outer m d i h = rw (le-ltb i d h) (elim (dec_lt (i - d) m) [
-  | yes l ↦ lt-ltb (i - d) m l ∙ sym (lt-ltb i (d + m) (omega arith))
-  | no l ↦ le-ltb (i - d) m (omega arith) ∙ sym (le-ltb i (d + m) (omega arith))
-])
+-- The kind of a tree's root is known.
+pub root_known : (rs : List Record) (i : ℕ) (r : Record) → r ≡ get_or rs i no_record → (t : Term) → At rs i t → IsKind r.kind
+root_known rs i r e t h = rw (ap (λ q. q.kind) (e ∙ at_head rs i t h)) (kind_range (root_kind t))
 
 -- `gives_way`
 pub named_leaf : (c m d i : ℕ) (x : Bool) → c ≡ 0 → x ≡ names_removed m d i → x ≡ is_named c m d i
@@ -52,8 +47,8 @@ pub named_other : (c m d i : ℕ) → c ≢ 0 → false ≡ is_named c m d i
 unfolding is_named
 named_other c m d i e = rw (ne_eqb c 0 e)
 
--- `wrap_root`, `lower_root`
-pub root_moves : (moved : ℕ → ℕ) (rs rs' : List Record) (dst : ℕ) (r : Record) (a : ℕ) → PutsIndexed rs rs' dst r a → a ≡ moved_field moved (kind_of r.kind) r.fields.a → MovesRoot moved rs rs' dst r
-root_moves moved rs rs' dst r a w e = record { is = w.is ∙ ap (λ x. set rs dst (record { kind = r.kind; fields = with_index r.fields x; first = r.first; next = r.next })) e }
+-- A root whose index is moved.
+pub root_moves : (moved : ℕ → ℕ) (rs rs' : List Record) (dst : ℕ) (r : Record) (k : Kind) → k ≡ kind_of r.kind → (a : ℕ) → a ≡ moved_field moved k r.fields.a → PutsIndexed rs rs' dst r a → MovesRoot moved rs rs' dst r
+root_moves moved rs rs' dst r k o a e w = record { is = w.is ∙ ap (λ x. set rs dst (record { kind = r.kind; fields = with_index r.fields x; first = r.first; next = r.next })) (e ∙ ap (λ k. moved_field moved k r.fields.a) o) }
 
 pub ruleset parts = (block_fits, tree_in, tree_read, named_leaf, named_other, root_moves)

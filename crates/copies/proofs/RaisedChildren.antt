@@ -3,17 +3,16 @@
 use Prim.Native.Nat.{ℕ, zero, suc, ◌+◌, ◌-◌, ◌/◌, ◌^◌, ◌≤◌, ◌<◌}
 use native.Mathlib.Omega.{arith}
 use mathlib.Core.List.{List, [], ◌∷◌}
-use mathlib.Core.Logic.{◌⊎◌, ◌≢◌, inl, ⊎_elim}
+use mathlib.Core.Logic.{◌≢◌}
 use mathlib.Core.Path.{◌≡◌, refl, sym, ap}
 use lib.ListN.{length}
-use mir.Syntax.{w16, w64}
+use mir.Syntax.{w64}
 use mir.Val.{Fits}
-use Rattle.rules.specs.Kinds.{child_count, kind_of}
+use Rattle.rules.specs.Kinds.{Kind, child_count, kind_of}
 use Rattle.rules.specs.Terms.{Term}
 use Rattle.rules.specs.Binders.{binders_first, binders_second}
 use Rattle.rules.specs.Format.{Record}
-use Rattle.rules.proofs.Laid.{size_some}
-use Rattle.kinds.proofs.KindRanges.{itself, itself_one, arm, rest}
+use Rattle.rules.proofs.KindTable.{each_kind}
 use Rattle.records.specs.View.{records_in}
 use Rattle.records.proofs.Records.{records_length}
 use Rattle.terms.specs.Preorder.{HasTree}
@@ -64,31 +63,38 @@ module _ (rs₀ : List Record) (src dst n d : ℕ) (rs : List Record) (i e : ℕ
           let o = m.is x.first (opened_raises p.tree p.raises).there in
           (omega (arith, at_within rs₀ src p.tree p.raises.there), omega (arith, p.raises.room))
 
--- What is known once the root of a tree with a free index is copied: of the bytes s₀ at the start, s at this turn and s₁ now.
-pub record RootCopied (q : ℕ) (s₀ s s₁ : List ℕ) (src dst n d all i : ℕ) (r : Record) : Type 0 where
+-- A kind that binds over its first child has no other, and one that binds over its second has three.
+first_alone : (k : Kind) → binders_first k ≡ 1 → (child_count k ≡ 1) × (binders_second k ≡ 0)
+first_alone = each_kind (λ k. binders_first k ≡ 1 → (child_count k ≡ 1) × (binders_second k ≡ 0)) (omega arith)
+
+second_of_three : (k : Kind) → binders_second k ≢ 0 → (child_count k ≡ 3) × (binders_first k ≡ 0)
+second_of_three = each_kind (λ k. binders_second k ≢ 0 → (child_count k ≡ 3) × (binders_first k ≡ 0)) (omega arith)
+
+first_none : (k : Kind) → binders_first k ≢ 1 → binders_first k ≡ 0
+first_none = each_kind (λ k. binders_first k ≢ 1 → binders_first k ≡ 0) (omega arith)
+
+-- What is known once the root of a tree with a free index, of kind k, is copied: of the bytes s₀ at the start, s at this turn and s₁ now.
+pub record RootCopied (q : ℕ) (s₀ s s₁ : List ℕ) (src dst n d all i : ℕ) (r : Record) (k : Kind) : Type 0 where
   pub measure : length (records_in s₀) - src ≡ q
   pub tree : TreeRead s₀ s src dst n d all i r
   pub free : d < r.next / 2
   pub root : RaisesRoot (records_in s) (records_in s₁) (src + i) (dst + i) n d
   pub same : length s₁ ≡ length s₀
+  pub known : k ≡ kind_of r.kind
 
-module _ (q : ℕ) (s₀ s s₁ : List ℕ) (src dst n d all i : ℕ) (r : Record) (o : RootCopied q s₀ s s₁ src dst n d all i r) where
+module _ (q : ℕ) (s₀ s s₁ : List ℕ) (src dst n d all i : ℕ) (r : Record) (k : Kind) (o : RootCopied q s₀ s s₁ src dst n d all i r k) where
   abbrev Opened : List ℕ → ℕ → List ℕ → Type 0
   Opened s j fs = Pending (records_in s₀) src dst n d (records_in s) j fs
 
-  opens : (fs : List ℕ) → length fs ≤ child_count (kind_of r.kind) → Overs d (kind_of r.kind) 0 fs → Opened s₁ (i + 1) fs
-  opens = turn_opened (records_in s₀) src dst n d all o.tree.whole (records_in s) i o.tree.row o.tree.going (records_in s₁) r o.tree.read o.root o.free
+  opens : (fs : List ℕ) → length fs ≤ child_count k → Overs d k 0 fs → Opened s₁ (i + 1) fs
+  opens = turn_opened (records_in s₀) src dst n d all o.tree.whole (records_in s) i o.tree.row o.tree.going (records_in s₁) r o.tree.read k o.known o.root o.free
 
-  -- Kinds 11 to 14 alone bind over a second child.
-  over_second_lem : (r.kind ≤ 10) ⊎ (14 < r.kind) → binders_over (kind_of r.kind) 1 ≡ 0
-  over_second_lem h = sym (rest itself itself_one binders_second 0 ((11, 14) ∷ []) (omega arith) r.kind ((λ x y. ⊎_elim (λ l. omega arith) (λ l. omega arith) h), tt))
-
-  pub flat_opened : r.kind ≢ 3 → (r.kind ≤ 10) ⊎ (14 < r.kind) → Opened s₁ (i + 1) []
+  pub flat_opened : binders_first k ≢ 1 → binders_second k ≡ 0 → Opened s₁ (i + 1) []
   flat_opened u v = opens [] (omega arith) over
     where
-      over : (j : ℕ) → 0 ≤ j → binders_over (kind_of r.kind) j ≡ 0
-      over zero _ = sym (rest itself itself_one binders_first 0 ((3, 3) ∷ []) (omega arith) r.kind ((λ x y. u (omega arith)), tt))
-      over (suc zero) _ = over_second_lem v
+      over : (j : ℕ) → 0 ≤ j → binders_over k j ≡ 0
+      over zero _ = first_none k u
+      over (suc zero) _ = v
       over (suc (suc j)) _ = refl
 
   pub next_from_fits : Fits w64 (src + (i + 1))
@@ -101,17 +107,14 @@ module _ (q : ℕ) (s₀ s s₁ : List ℕ) (src dst n d all i : ℕ) (r : Recor
   falls s' a b e m l h = omega (arith, raise_in (records_in s') a b n e h, o.measure, records_length s₀, records_length s')
 
   -- A function: over its child there is one variable more.
-  module _ (k : r.kind ≡ 3) where
+  module _ (b : binders_first k ≡ 1) where
     function_opened : Opened s₁ (i + 1) ((d + 1) ∷ [])
-    function_opened =
-        let c = arm itself itself_one child_count 1 3 3 (omega arith) r.kind (omega arith) in
-        let f = arm itself itself_one binders_first 1 3 3 (omega arith) r.kind (omega arith) in
-        opens ((d + 1) ∷ []) (omega arith) (omega arith, over)
+    function_opened = let h = first_alone k b in opens ((d + 1) ∷ []) (omega arith) (omega arith, over h.1)
       where
-        over : (j : ℕ) → 1 ≤ j → binders_over (kind_of r.kind) j ≡ 0
-        over zero l = absurd (omega arith)
-        over (suc zero) l = over_second_lem (inl (omega arith))
-        over (suc (suc j)) l = refl
+        over : binders_second k ≡ 0 → (j : ℕ) → 1 ≤ j → binders_over k j ≡ 0
+        over e zero l = absurd (omega arith)
+        over e (suc zero) l = e
+        over e (suc (suc j)) l = refl
 
     pub function_tree : HasTree (records_in s₁) (src + (i + 1))
     function_tree = opened_tree (records_in s₀) src dst n d (records_in s₁) (i + 1) (d + 1) [] function_opened
@@ -130,12 +133,11 @@ module _ (q : ℕ) (s₀ s s₁ : List ℕ) (src dst n d all i : ℕ) (r : Recor
       function_copied s' = opened_copied (records_in s₀) src dst n d (records_in s₁) (i + 1) (d + 1) [] function_opened (omega arith) (omega arith) z t (records_in s')
 
   -- A match that binds: its code stands under no more variables.
-  module _ (u : 11 ≤ r.kind) (v : r.kind ≤ 14) where
-    match_opened : Opened s₁ (i + 1) (d ∷ (d + binders_over (kind_of r.kind) 1) ∷ [])
+  module _ (b : binders_second k ≢ 0) where
+    match_opened : Opened s₁ (i + 1) (d ∷ (d + binders_second k) ∷ [])
     match_opened =
-        let c = arm itself itself_one child_count 3 11 14 (omega arith) r.kind (u, v) in
-        let f = arm itself itself_one binders_first 0 11 14 (omega arith) r.kind (u, v) in
-        opens (d ∷ (d + binders_over (kind_of r.kind) 1) ∷ []) (omega arith) (omega arith, (refl, (λ j l. over_others (kind_of r.kind) j (λ e. omega arith) (λ e. omega arith))))
+        let h = second_of_three k b in
+        opens (d ∷ (d + binders_second k) ∷ []) (omega arith) (omega arith, (refl, (λ j l. over_others k j (λ e. omega arith) (λ e. omega arith))))
 
     pub code_tree : HasTree (records_in s₁) (src + (i + 1))
     code_tree = opened_tree (records_in s₀) src dst n d (records_in s₁) (i + 1) d _ match_opened
@@ -147,20 +149,19 @@ module _ (q : ℕ) (s₀ s s₁ : List ℕ) (src dst n d all i : ℕ) (r : Recor
     code_falls = falls s₁ _ _ _ o.same (omega arith) code_can
 
 -- What is known once the code of a match that binds is copied too: of the bytes s₂ now.
-pub record CodeCopied (q : ℕ) (s₀ s s₁ s₂ : List ℕ) (src dst n d all i : ℕ) (r : Record) (z : ℕ) : Type 0 where
-  pub match : RootCopied q s₀ s s₁ src dst n d all i r
-  pub least : 11 ≤ r.kind
-  pub most : r.kind ≤ 14
+pub record CodeCopied (q : ℕ) (s₀ s s₁ s₂ : List ℕ) (src dst n d all i : ℕ) (r : Record) (k : Kind) (z : ℕ) : Type 0 where
+  pub match : RootCopied q s₀ s s₁ src dst n d all i r k
+  pub binds : binders_second k ≢ 0
   pub size : TreeSize (records_in s₁) (src + (i + 1)) z
   pub copy : Raises (records_in s₁) (records_in s₂) (src + (i + 1)) (dst + (i + 1)) n d
   pub same : length s₂ ≡ length s₀
 
 -- Its success is the next tree. What the code computes of the binders over it is an equation.
-module _ (q : ℕ) (s₀ s s₁ s₂ : List ℕ) (src dst n d all i : ℕ) (r : Record) (z : ℕ) (o : CodeCopied q s₀ s s₁ s₂ src dst n d all i r z) where
-  code_opened : Pending (records_in s₀) src dst n d (records_in s₁) (i + 1) (d ∷ (d + binders_over (kind_of r.kind) 1) ∷ [])
-  code_opened = match_opened q s₀ s s₁ src dst n d all i r o.match o.least o.most
+module _ (q : ℕ) (s₀ s s₁ s₂ : List ℕ) (src dst n d all i : ℕ) (r : Record) (k : Kind) (z : ℕ) (o : CodeCopied q s₀ s s₁ s₂ src dst n d all i r k z) where
+  code_opened : Pending (records_in s₀) src dst n d (records_in s₁) (i + 1) (d ∷ (d + binders_second k) ∷ [])
+  code_opened = match_opened q s₀ s s₁ src dst n d all i r k o.match o.binds
 
-  code_copied : Pending (records_in s₀) src dst n d (records_in s₂) (i + 1 + z) ((d + binders_over (kind_of r.kind) 1) ∷ [])
+  code_copied : Pending (records_in s₀) src dst n d (records_in s₂) (i + 1 + z) ((d + binders_second k) ∷ [])
   code_copied = opened_copied (records_in s₀) src dst n d (records_in s₁) (i + 1) d _ code_opened (omega arith) (omega arith) z o.size (records_in s₂) o.copy
 
   code_within : (src + (i + 1 + z) < 2 ^ 64) × (dst + (i + 1 + z) < 2 ^ 64)
@@ -180,18 +181,18 @@ module _ (q : ℕ) (s₀ s s₁ s₂ : List ℕ) (src dst n d all i : ℕ) (r : 
   pub success_tree : HasTree (records_in s₂) (src + (i + 1 + z))
   success_tree = opened_tree (records_in s₀) src dst n d (records_in s₂) (i + 1 + z) _ [] code_copied
 
-  module _ (x : ℕ) (y : x ≡ binders_over (kind_of r.kind) 1) where
+  module _ (x : ℕ) (y : x ≡ binders_second k) where
     success_opened : Pending (records_in s₀) src dst n d (records_in s₂) (i + 1 + z) ((d + x) ∷ [])
     success_opened = rw (sym y) at code_copied
 
     few : d + x ≤ d + 2
-    few = omega (arith, binds_few (kind_of r.kind) 1)
+    few = omega (arith, binds_few k 1)
 
     pub success_can : CanRaise (records_in s₂) (src + (i + 1 + z)) (dst + (i + 1 + z)) n (d + x)
     success_can = opened_can (records_in s₀) src dst n d (records_in s₂) (i + 1 + z) (d + x) [] success_opened (omega arith) few
 
     pub success_falls : length (records_in s₂) - (src + (i + 1 + z)) < q
-    success_falls = falls q s₀ s s₁ src dst n d all i r o.match s₂ _ _ _ o.same (omega arith) success_can
+    success_falls = falls q s₀ s s₁ src dst n d all i r k o.match s₂ _ _ _ o.same (omega arith) success_can
 
     module _ (z' : ℕ) (t : TreeSize (records_in s₂) (src + (i + 1 + z)) z') where
       pub success_fits : Fits w64 (i + 1 + z + z')
@@ -199,10 +200,3 @@ module _ (q : ℕ) (s₀ s s₁ s₂ : List ℕ) (src dst n d all i : ℕ) (r : 
 
       pub success_copied : (s' : List ℕ) → Raises (records_in s₂) (records_in s') (src + (i + 1 + z)) (dst + (i + 1 + z)) n (d + x) → Pending (records_in s₀) src dst n d (records_in s') (i + 1 + z + z') []
       success_copied s' = opened_copied (records_in s₀) src dst n d (records_in s₂) (i + 1 + z) (d + x) [] success_opened (omega arith) few z' t (records_in s')
-
-module _ (rs₀ : List Record) (src dst n d : ℕ) (rs : List Record) (i : ℕ) (p : Pending rs₀ src dst n d rs i []) where
-  pub function_deep : Fits w16 (d + 1)
-  function_deep = omega (arith, p.raises.deep, size_some p.tree)
-
-  pub success_deep : (x k : ℕ) → x ≡ binders_over (kind_of k) 1 → Fits w16 (d + x)
-  success_deep x k o = omega (arith, binds_few (kind_of k) 1, p.raises.deep, size_some p.tree)

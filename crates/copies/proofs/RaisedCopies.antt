@@ -7,15 +7,16 @@ use mathlib.Core.Path.{◌≡◌, refl, sym, ap, ◌∙◌, subst}
 use lib.ListN.{length, get_or}
 use mir.Syntax.{w16, w64}
 use mir.Val.{Fits}
-use Rattle.rules.specs.Kinds.{child_count, kind_of}
+use Rattle.rules.specs.Kinds.{Kind, child_count, kind_of}
 use Rattle.rules.specs.Terms.{Term, root_kind, size}
 use Rattle.rules.specs.Indices.{changed, raising}
 use Rattle.rules.specs.Format.{Record, no_record}
 use Rattle.rules.proofs.Laid.{size_some}
 use Rattle.rules.proofs.FreeBounds.{changed_low, raising_low}
+use Rattle.kinds.specs.Named.{IsKind}
 use Rattle.records.specs.View.{records_in}
 use Rattle.records.proofs.Records.{records_length}
-use Rattle.terms.specs.Preorder.{puts, part, preorder, At, HasTree}
+use Rattle.terms.specs.Preorder.{puts, part, preorder, At}
 use Rattle.terms.specs.Moves.{CanMove, Moved}
 use Rattle.terms.specs.Children.{kids, sizes, preorders}
 use Rattle.terms.proofs.Children.{kids_count}
@@ -24,7 +25,7 @@ use Rattle.terms.proofs.Readings.{bound_reads}
 use Rattle.terms.proofs.Moving.{apart_moves}
 use Rattle.copies.specs.Copying.{TreeSize}
 use Rattle.copies.specs.Raising.{RaisingAt, CanRaise, Raises, CanRaiseRoot, RaisesRoot}
-use Rattle.copies.proofs.Parts.{tree_read}
+use Rattle.copies.proofs.Parts.{tree_read, root_known}
 use Rattle.copies.proofs.RaisedLeaves.{raise, leaf_index_fits, leaf_next_fits}
 use Rattle.copies.proofs.RaisedRows.{raised_trees, Uncopied, Remaining, NextTree, Pending, first_left, first_raises, first_copied, first_opened, Overs, trees_opened}
 
@@ -46,9 +47,6 @@ module _ (rs : List Record) (src dst n d : ℕ) (r : Record) (e : r ≡ get_or r
 
 -- Where it starts and where it ends.
 module _ (rs : List Record) (src dst n d : ℕ) (h : CanRaise rs src dst n d) where
-  pub raise_tree : HasTree rs src
-  raise_tree = record { tree = h.tree; there = h.raises.there }
-
   pub raise_in : src < length rs
   raise_in = at_first rs src h.tree h.raises.there
 
@@ -118,17 +116,17 @@ module _ (rs₀ : List Record) (src dst n d all : ℕ) (m : TreeSize rs₀ src a
           }
 
       -- Its root is.
-      pub turn_opened : RaisesRoot rs rs' (src + i) (dst + i) n d → d < r.next / 2 → (fs : List ℕ) → length fs ≤ child_count (kind_of r.kind) → Overs d (kind_of r.kind) 0 fs → Pending rs₀ src dst n d rs' (i + 1) fs
-      turn_opened w b fs c g = record { all = λ t h. opened t h (turn_next t h) (turn_raises t h); tree = p.tree; raises = p.raises }
+      pub turn_opened : (k : Kind) → k ≡ kind_of r.kind → RaisesRoot rs rs' (src + i) (dst + i) n d → d < r.next / 2 → (fs : List ℕ) → length fs ≤ child_count k → Overs d k 0 fs → Pending rs₀ src dst n d rs' (i + 1) fs
+      turn_opened k o w b fs c g = record { all = λ t h. opened t h (turn_next t h) (turn_raises t h); tree = p.tree; raises = p.raises }
         where
           opened : (t : Term) (h : RaisingAt rs₀ src dst n d t) (x : NextTree rs₀ src dst n d rs i [] t) → RaisingAt rs (src + i) (dst + i) n d x.first → Remaining rs₀ src dst n d rs' (i + 1) fs t
           opened t h x a =
-              let k : kind_of r.kind ≡ root_kind x.first = ap (λ y. kind_of y.kind) e ∙ kind_at rs (src + i) x.first a.there in
-              let o : length fs ≤ length (kids x.first) = omega (arith, kids_count x.first, ap child_count k) in
+              let q : k ≡ root_kind x.first = o ∙ ap (λ y. kind_of y.kind) e ∙ kind_at rs (src + i) x.first a.there in
+              let m : length fs ≤ length (kids x.first) = omega (arith, kids_count x.first, ap child_count q) in
               record {
                 trees = kids x.first ++ x.later;
-                left = first_opened rs₀ src dst n d t h rs i x.first x.later x.left fs o
-                    (trees_opened n d (root_kind x.first) x.later (kids x.first) 0 fs o (subst (λ k. Overs d k 0 fs) k g)) rs' (w.does x.first a (omega (arith, (bound_reads rs (src + i) r e).is x.first a.there)));
+                left = first_opened rs₀ src dst n d t h rs i x.first x.later x.left fs m
+                    (trees_opened n d (root_kind x.first) x.later (kids x.first) 0 fs m (subst (λ k. Overs d k 0 fs) q g)) rs' (w.does x.first a (omega (arith, (bound_reads rs (src + i) r e).is x.first a.there)));
               }
 
 -- Places and lengths.
@@ -162,15 +160,15 @@ module _ (s₀ s : List ℕ) (src dst n d all i : ℕ) (r : Record) (o : TreeRea
   pub read_room : dst + i < length (records_in s)
   read_room = turn_room (records_in s₀) src dst n d all o.whole (records_in s) i o.row o.going
 
+  pub read_known : IsKind r.kind
+  read_known = root_known (records_in s) (src + i) r o.read can.tree can.raises.there
+
   -- A leaf.
   pub read_index_fits : r.first ≡ 1 → r.fields.a < 65536 → Fits w16 (r.fields.a + raise n d (r.next / 2))
   read_index_fits k l = leaf_index_fits (records_in s) (src + i) (dst + i) n d r o.read can k l
 
   pub read_next_fits : (m : ℕ) → m ≤ n → Fits w16 (r.next + 2 * m)
   read_next_fits m l = leaf_next_fits (records_in s) (src + i) (dst + i) n d r o.read can m l
-
-  pub read_twice_fits : (m : ℕ) → m ≤ n → Fits w16 (2 * m)
-  read_twice_fits m l = omega (arith, can.raises.small)
 
   -- A block, or a root that is raised.
   pub read_moves : CanMove (records_in s) (src + i) (dst + i) r.first
@@ -186,9 +184,6 @@ module _ (s₀ s : List ℕ) (src dst n d all i : ℕ) (r : Record) (o : TreeRea
       let y = turn_raises (records_in s₀) src dst n d all o.whole (records_in s) i o.row o.going o.row.tree h in
       let q = (tree_read (records_in s) (src + i) r o.read).is x.first y.there in
       (omega (arith, size_some x.first), omega (arith, o.whole.is o.row.tree h.there, first_left (records_in s₀) src dst n d o.row.tree h (records_in s) i [] x.first x.later x.left))
-
-  pub read_size_fits : Fits w64 (i + r.first)
-  read_size_fits = omega (arith, read_size_in, read_fits)
 
   pub read_less : all - (i + r.first) < all - i
   read_less = omega (arith, read_size_in, o.going)

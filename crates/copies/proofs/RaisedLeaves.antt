@@ -22,7 +22,6 @@ use Rattle.terms.specs.Children.{kids, sizes, preorders}
 use Rattle.terms.proofs.Children.{kids_sizes, count_sizes}
 use Rattle.terms.proofs.Trees.{preorder_kids, at_head}
 use Rattle.terms.proofs.Readings.{bound_reads}
-use Rattle.copies.specs.Copying.{PutsIndexed}
 use Rattle.copies.specs.Raising.{CanRaise, Raises}
 use Rattle.copies.proofs.RaisedIndices.{product_low}
 
@@ -40,7 +39,7 @@ leaf_index (binary k f t u) s l = absurd (omega (arith, size_some t))
 leaf_index (ternary k f t u v) s l = absurd (omega (arith, size_some t))
 
 -- The record of a leaf whose index is raised by m.
-abbrev leaf_by : ℕ → Record → Record
+abbrev pub leaf_by : ℕ → Record → Record
 leaf_by m r = record { kind = r.kind; fields = with_index r.fields (r.fields.a + m); first = r.first; next = r.next + 2 * m }
 
 by_none : (r : Record) → r ≡ leaf_by 0 r
@@ -81,18 +80,15 @@ module _ (n d : ℕ) where
 
 -- A leaf is written.
 module _ (rs : List Record) (src dst n d : ℕ) (r : Record) (e : r ≡ get_or rs src no_record) where
-  pub leaf_does : r.first ≡ 1 → (rs' : List Record) (q : Record) (a : ℕ) → PutsIndexed rs rs' dst q a → a ≡ r.fields.a + raise n d (r.next / 2)
-      → q ≡ record { kind = r.kind; fields = r.fields; first = r.first; next = r.next + 2 * raise n d (r.next / 2) } → Raises rs rs' src dst n d
+  pub leaf_does : r.first ≡ 1 → (rs' : List Record) → rs' ≡ set rs dst (leaf_by (raise n d (r.next / 2)) r) → Raises rs rs' src dst n d
   unfolding puts
-  leaf_does s rs' q a w f g = record { does = λ t h. told t h.there (e ∙ at_head rs src t h.there) }
+  leaf_does s rs' w = record { does = λ t h. told t h.there (e ∙ at_head rs src t h.there) }
     where
       told : (t : Term) → At rs src t → r ≡ head t → rs' ≡ puts rs dst (preorder (changed (raising n) d t))
       told t h m =
           let b : r.next / 2 ≡ free_bound t = (bound_reads rs src r e).is t h in
           let x : leaf_by (raise n d (r.next / 2)) r ≡ leaf_by (raise n d (free_bound t)) (head t) = ap (λ b. leaf_by (raise n d b) r) b ∙ ap (leaf_by (raise n d (free_bound t))) m in
-          w.is ∙ ap (λ y. set rs dst (record { kind = y.kind; fields = with_index y.fields a; first = y.first; next = y.next })) g
-          ∙ ap (λ a. set rs dst (record { kind = r.kind; fields = with_index r.fields a; first = r.first; next = r.next + 2 * raise n d (r.next / 2) })) f
-          ∙ ap (set rs dst) x ∙ ap (puts rs dst) (sym (leaf_raised n d t (sym (ap (λ y. y.first) m) ∙ s)))
+          w ∙ ap (set rs dst) x ∙ ap (puts rs dst) (sym (leaf_raised n d t (sym (ap (λ y. y.first) m) ∙ s)))
 
   -- No field gets too large.
   module _ (h : CanRaise rs src dst n d) where

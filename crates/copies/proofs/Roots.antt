@@ -2,28 +2,15 @@
 use Prim.Native.Nat.{ℕ, suc, ◌+◌}
 use native.Mathlib.Nat.{add_comm, add-zero}
 use mathlib.Core.List.{List, [], ◌∷◌}
-use mathlib.Core.Logic.{◌≢◌}
-use mathlib.Core.Path.{◌≡◌, refl, sym, ap, ◌∙◌}
-use borrow.Author.Tests.{ne_eqb}
+use mathlib.Core.Path.{◌≡◌, refl, ap}
 use Rattle.rules.specs.Kinds.{number, variable, Unary, function, fix, lift, quote, splice, application, Ternary, match_variable, match_shape, match, match_number, match_application, match_lift, match_function, match_fix, Kind, unary₁, ternary₃}
 use Rattle.rules.specs.Binders.{binders_first, binders_second}
-use Rattle.rules.specs.FieldUses.{uses, use_number}
 use Rattle.rules.specs.Terms.{Fields, Term, leaf, unary, binary, ternary, root_kind, fields_of}
 use Rattle.rules.specs.Indices.{Change, with_index, on_fields, changed}
 use Rattle.terms.specs.Children.{kids}
 use Rattle.terms.specs.Measuring.{binders_over}
 use Rattle.terms.proofs.Joined.{first_over, second_over}
 use Rattle.copies.specs.Roots.{moved_field}
-
--- `raised_field`, `lowered_field`
-module _ (moved : ℕ → ℕ) (k : Kind) (a u : ℕ) (e : u ≡ use_number (uses k).a) where
-  pub moved_index : u ≡ 1 → moved_field moved k a ≡ moved a
-  unfolding moved_field
-  moved_index q = rw (sym e ∙ q)
-
-  pub moved_other : u ≢ 1 → moved_field moved k a ≡ a
-  unfolding moved_field
-  moved_other q = rw (ne_eqb (use_number (uses k).a) 1 (λ p. q (e ∙ p)))
 
 -- The children of the changed tree, from child j on.
 unfoldable pub changed_children : Change → ℕ → Kind → ℕ → List Term → List Term

@@ -7,11 +7,11 @@ use mathlib.Core.Bool.{Bool, true, false, true≢false}
 use mathlib.Core.Logic.{◌≢◌, inl, inr, ⊎_elim}
 use mathlib.Core.Path.{◌≡◌, refl, sym, ap, ap₂, ◌∙◌}
 use lib.Dec.{eqb}
-use lib.ListN.{length, get_or, set, length-set}
+use lib.ListN.{length, get_or, set}
 use borrow.Author.Tests.{lt-ltb, le-ltb, eq-eqb, ne_eqb, eqb-true}
-use mir.Syntax.{w16, w64}
+use mir.Syntax.{w64}
 use mir.Val.{Fits}
-use Rattle.rules.specs.Kinds.{number, variable, match_variable, match_shape, match, child_count, kind_of}
+use Rattle.rules.specs.Kinds.{number, variable, match_variable, match_shape, match, Kind, child_count, kind_of}
 use Rattle.rules.specs.Terms.{Fields, Term, leaf, unary, binary, ternary, root_kind, size, only_type}
 use Rattle.rules.specs.Binders.{binds₁, binds₃}
 use Rattle.rules.specs.FreeBounds.{free_bound}
@@ -21,18 +21,20 @@ use Rattle.rules.specs.Format.{Record, no_record}
 use Rattle.rules.proofs.Laid.{size_some}
 use Rattle.rules.proofs.FreeBounds.{KeepsLow}
 use Rattle.rules.proofs.ChangedBounds.{raised_most, bound_wrapped}
-use Rattle.records.specs.View.{records_in, RecordPut}
+use Rattle.kinds.specs.Named.{IsKind}
+use Rattle.records.specs.View.{records_in}
 use Rattle.records.proofs.Records.{records_length}
 use Rattle.terms.specs.Preorder.{puts, head, preorder, At, HasTree, Skips}
 use Rattle.terms.specs.Moves.{CanMove}
 use Rattle.terms.specs.Measuring.{binders_over, HasRooted, MarksRoot}
-use Rattle.copies.specs.Copying.{CopyAt, CanCopy, Copies, BlockMoved, is_named, MovesRoot}
-use Rattle.copies.specs.Raising.{RaisingAt, CanRaise, Raises}
-use Rattle.copies.specs.Wrapping.{spliced_use, wrapping_under, Wrapping, PutsUse, RoomForUse, CanWrapRoot}
+use Rattle.copies.specs.Roots.{moved_field}
+use Rattle.copies.specs.Copying.{CopyAt, CanCopy, Copies, BlockMoved, is_named, MovesRoot, PutsIndexed}
+use Rattle.copies.specs.Raising.{FieldFits, RaisingAt, CanRaise, Raises}
+use Rattle.copies.specs.Wrapping.{spliced_use, wrapping_under, Wrapping, PutsUse, RoomForUse}
 use Rattle.copies.proofs.RaisedRoots.{size_raised, index_fits}
-use Rattle.copies.proofs.Parts.{named_other}
+use Rattle.copies.proofs.Parts.{named_other, root_known, root_moves}
 use Rattle.terms.proofs.Puts.{put_before}
-use Rattle.copies.proofs.Copies.{Sound, read_root, read_bound, read_kind, copy_in, copy_to, block_can, block_does, Copying, copy_starts, turn_tree, turn_deep, turn_can, turn_next, copy_rooted, copy_ends, copy_from_fits, copy_falls}
+use Rattle.copies.proofs.Copies.{Sound, read_root, read_bound, read_kind, copy_in, copy_to, block_can, block_does, Copying, copy_starts, turn_tree, turn_can, turn_next, copy_rooted, copy_ends, copy_from_fits, copy_falls}
 
 -- Raising after wrapping is one walk.
 module _ (n code : ℕ) where
@@ -97,9 +99,6 @@ module _ (s : List ℕ) (dst : ℕ) (h : RoomForUse (records_in s) dst) where
   pub use_end_fits : length s < 2 ^ 64 → Fits w64 (dst + 2)
   use_end_fits b = omega (arith, h.two, records_length s)
 
-  pub use_in : (s' : List ℕ) (x : Record) → RecordPut s (dst + 1) x s' → dst < length (records_in s')
-  use_in s' x w = omega (arith, h.two, ap length w.things ∙ length-set (records_in s) (dst + 1) x)
-
 module _ (rs rs₁ rs₂ : List Record) (dst code : ℕ) (r : Record) where
   abbrev used : Record → Record
   used q = record { kind = q.kind; fields = record { type = code; a = q.fields.a; b = q.fields.b; value = q.fields.value }; first = q.first; next = q.next }
@@ -161,9 +160,10 @@ leaf_wrapped n code d (unary u f t) k b = absurd (omega arith)
 leaf_wrapped n code d (binary u f t v) k b = absurd (omega arith)
 leaf_wrapped n code d (ternary u f t s e) k b = absurd (omega arith)
 
-module _ (rs : List Record) (src dst n d code : ℕ) (r : Record) (e : r ≡ get_or rs src no_record) (k : ℕ) (o : k ≡ child_count (kind_of r.kind)) (x : Bool) (i : x ≡ is_named k 1 (d + 1) (r.next / 2)) where
+module _ (rs : List Record) (src dst n d code : ℕ) (r : Record) (e : r ≡ get_or rs src no_record) (q : Kind) (u : q ≡ kind_of r.kind) (k : ℕ) (o : k ≡ child_count q)
+    (x : Bool) (i : x ≡ is_named k 1 (d + 1) (r.next / 2)) where
   root_children : (t : Term) → At rs src t → k ≡ child_count (root_kind t)
-  root_children t h = o ∙ ap child_count (read_kind rs src r e t h)
+  root_children t h = o ∙ ap child_count (u ∙ read_kind rs src r e t h)
 
   module _ (y : x ≡ true) where
     is_use : (t : Term) → At rs src t → (f : Fields) × (t ≡ leaf variable f) × (changed (wrapping_under n code) d t ≡ spliced_use code f)
@@ -212,18 +212,11 @@ module _ (rs : List Record) (src dst n d code : ℕ) (r : Record) (e : r ≡ get
           rw a (record { records = w.does t (raising_of lo hi b c t s h); end = ap (λ u. dst + u) (sym (size_raised n (d + 1) t ∙ m)) });
     }
 
-pub wrap_one_fits : (rs : List Record) (src dst n d code : ℕ) → CanCopy (Wrapping n code) rs src dst d → Fits w16 (d + 1)
-wrap_one_fits rs src dst n d code h = omega (arith, h.copy.fits.low)
+pub wrap_known : (rs : List Record) (src dst n d code : ℕ) (r : Record) → r ≡ get_or rs src no_record → CanCopy (Wrapping n code) rs src dst d → IsKind r.kind
+wrap_known rs src dst n d code r e h = root_known rs src r e h.tree h.copy.there
 
-pub wrap_root_can : (rs : List Record) (src dst n d code : ℕ) (r : Record) → r ≡ get_or rs src no_record → CanCopy (Wrapping n code) rs src dst d → CanWrapRoot rs dst r n d
-wrap_root_can rs src dst n d code r e h =
-    let t = h.tree in
-    let f = h.copy.fits in
-    record {
-      to = copy_to (Wrapping n code) rs src dst d h;
-      deep = omega (arith, f.low);
-      field = index_fits rs src r e t h.copy.there n (d + 1) (omega (arith, f.low, h.meant.reach));
-    }
+pub wrap_field : (rs : List Record) (src dst n d code : ℕ) (r : Record) → r ≡ get_or rs src no_record → CanCopy (Wrapping n code) rs src dst d → (k : Kind) → k ≡ kind_of r.kind → FieldFits n (d + 1) k r.fields.a
+wrap_field rs src dst n d code r e h = index_fits rs src r e h.tree h.copy.there n (d + 1) (omega (arith, h.copy.fits.low, h.meant.reach))
 
 -- The laws of copies, of this way: search knows it by its name.
 module _ (rs : List Record) (src dst n d code : ℕ) (r : Record) (e : r ≡ get_or rs src no_record) (l : r.next / 2 ≤ d) where
@@ -234,36 +227,36 @@ module _ (rs : List Record) (src dst n d code : ℕ) (r : Record) (e : r ≡ get
   wrap_block_does = block_does (Wrapping n code) 1 _ (wrapping_sound n code) rs src dst d r e l
 
 -- The loop over the c children.
-pub record Wraps (rs₁ : List Record) (src dst n code d k c : ℕ) (rs : List Record) (at to j : ℕ) : Type 0 where
-  count : c ≡ child_count (kind_of k)
+pub record Wraps (rs₁ : List Record) (src dst n code d : ℕ) (k : Kind) (c : ℕ) (rs : List Record) (at to j : ℕ) : Type 0 where
+  count : c ≡ child_count k
   copying : Copying (Wrapping n code) 1 rs₁ src dst d k rs at to j
 
-pub wrap_starts : (rs rs₁ : List Record) (src dst n d code : ℕ) (r : Record) → MovesRoot (raised_index n (d + 1)) rs rs₁ dst r → r ≡ get_or rs src no_record → d < r.next / 2 → (k : ℕ) → k ≡ r.kind
-    → (c : ℕ) → c ≡ child_count (kind_of k) → c ≢ 0 → CanCopy (Wrapping n code) rs src dst d → Wraps rs₁ src dst n code d k c rs₁ (src + 1) (dst + 1) 0
-wrap_starts rs rs₁ src dst n d code r w e l k q c o z h =
-    let a : c ≡ child_count (kind_of r.kind) = rw q at o in
-    record { count = o; copying = rw q (copy_starts (Wrapping n code) 1 _ (wrapping_sound n code) rs src dst d r e l c a false (named_other c 1 d r.fields.a z) refl rs₁ w h) }
+-- Its root, the record r, is written with the index a.
+module _ (rs rs₁ : List Record) (src dst n d code : ℕ) (r : Record) (e : r ≡ get_or rs src no_record) (l : d < r.next / 2) (k : Kind) (q : k ≡ kind_of r.kind)
+    (a : ℕ) (m : a ≡ moved_field (raised_index n (d + 1)) k r.fields.a) (w : PutsIndexed rs rs₁ dst r a) (c : ℕ) (z : c ≢ 0) where
+  moves : MovesRoot (raised_index n (d + 1)) rs rs₁ dst r
+  moves = root_moves (raised_index n (d + 1)) rs rs₁ dst r k q a m w
 
-pub wrap_ends : (rs rs₁ rs₂ rs₃ : List Record) (src dst n d code end : ℕ) → MarksRoot rs₂ rs₃ dst end → (k c at to j : ℕ) → Wraps rs₁ src dst n code d k c rs₂ at to j → c ≤ j
-    → (r : Record) → MovesRoot (raised_index n (d + 1)) rs rs₁ dst r → r ≡ get_or rs src no_record → k ≡ r.kind → d < r.next / 2 → c ≢ 0
-    → Copies (Wrapping n code) rs rs₃ src dst d end
-wrap_ends rs rs₁ rs₂ rs₃ src dst n d code end z k c at to j p m r w e q l u =
-    copy_ends (Wrapping n code) 1 _ (wrapping_sound n code) rs src dst d r e l c (rw q at p.count) false (named_other c 1 d r.fields.a u) refl rs₁ w rs₂ at to j (rw q at p.copying) m rs₃ end z
+  pub wrap_starts : c ≡ child_count k → CanCopy (Wrapping n code) rs src dst d → Wraps rs₁ src dst n code d k c rs₁ (src + 1) (dst + 1) 0
+  wrap_starts o h = record {
+    count = o;
+    copying = rw q (copy_starts (Wrapping n code) 1 _ (wrapping_sound n code) rs src dst d r e l c (o ∙ ap child_count q) false (named_other c 1 d r.fields.a z) refl rs₁ moves h);
+  }
+
+  pub wrap_ends : (rs₂ : List Record) (at to j : ℕ) → Wraps rs₁ src dst n code d k c rs₂ at to j → c ≤ j → (rs₃ : List Record) (end : ℕ) → MarksRoot rs₂ rs₃ dst end → Copies (Wrapping n code) rs rs₃ src dst d end
+  wrap_ends rs₂ at to j p = copy_ends (Wrapping n code) 1 _ (wrapping_sound n code) rs src dst d r e l c (p.count ∙ ap child_count q) false (named_other c 1 d r.fields.a z) refl rs₁ moves rs₂ at to j (rw q at p.copying)
 
 -- A turn of the loop. What the code computes for the child is a premise of its own.
-module _ (rs₁ : List Record) (src dst n code d k c : ℕ) (rs : List Record) (at to j : ℕ) (p : Wraps rs₁ src dst n code d k c rs at to j) where
+module _ (rs₁ : List Record) (src dst n code d : ℕ) (k : Kind) (c : ℕ) (rs : List Record) (at to j : ℕ) (p : Wraps rs₁ src dst n code d k c rs at to j) where
   module _ (l : j < c) where
     pub wrap_tree : HasTree rs at
     wrap_tree = turn_tree (Wrapping n code) 1 _ (wrapping_sound n code) rs₁ src dst d k rs at to j c p.copying p.count l
 
-    module _ (m : ℕ) (o : m ≡ binders_over (kind_of k) j) where
-      pub wrap_deep : (e : ℕ) → e ≡ d + m → Fits w16 e
-      wrap_deep e q = rw q (turn_deep (Wrapping n code) 1 _ (wrapping_sound n code) rs₁ src dst d k rs at to j c p.copying p.count l m o)
-
+    module _ (m : ℕ) (o : m ≡ binders_over k j) where
       pub wrap_can : (e n' code' : ℕ) → e ≡ d + m → n' ≡ n → code' ≡ code → CanCopy (Wrapping n' code') rs at to e
       wrap_can e n' code' q u v = rw (q, u, v) (turn_can (Wrapping n code) 1 _ (wrapping_sound n code) rs₁ src dst d k rs at to j c p.copying p.count l m o)
 
-    pub wrap_next : (end : ℕ) → Skips rs at end → (rs' : List Record) (to' m : ℕ) → Copies (Wrapping n code) rs rs' at to (d + m) to' → m ≡ binders_over (kind_of k) j
+    pub wrap_next : (end : ℕ) → Skips rs at end → (rs' : List Record) (to' m : ℕ) → Copies (Wrapping n code) rs rs' at to (d + m) to' → m ≡ binders_over k j
         → Wraps rs₁ src dst n code d k c rs' end to' (j + 1)
     wrap_next end sk rs' to' m w o = record {
       count = p.count;
@@ -274,10 +267,10 @@ module _ (rs₁ : List Record) (src dst n code d k c : ℕ) (rs : List Record) (
   wrap_rooted l = copy_rooted (Wrapping n code) 1 _ (wrapping_sound n code) rs₁ src dst d k rs at to j c p.copying p.count l
 
 -- What falls: the records from the tree on.
-pub wrap_falls : (s₀ : List ℕ) (src q : ℕ) → length (records_in s₀) - src ≡ q → (s₁ : List ℕ) (dst n code d k c : ℕ) (s : List ℕ) (at to j : ℕ)
+pub wrap_falls : (s₀ : List ℕ) (src q : ℕ) → length (records_in s₀) - src ≡ q → (s₁ : List ℕ) (dst n code d : ℕ) (k : Kind) (c : ℕ) (s : List ℕ) (at to j : ℕ)
     → Wraps (records_in s₁) src dst n code d k c (records_in s) at to j → j < c → length s₁ ≡ length s₀ → length (records_in s) - at < q
 wrap_falls s₀ src q g s₁ dst n code d k c s at to j p l y =
     copy_falls (Wrapping n code) 1 _ (wrapping_sound n code) s₁ src dst d k s at to j c p.copying p.count l s₀ y q g
 
 pub ruleset wrapping_laws =
-    (copy_in, copy_from_fits, use_fits, use_end_fits, use_in, use_put, use_room, use_does, wrap_leaf_can, wrap_leaf_does, wrap_one_fits, wrap_root_can, wrap_block_can, wrap_block_does, wrap_starts, wrap_ends, wrap_tree, wrap_deep, wrap_can, wrap_next, wrap_rooted)
+    (copy_in, copy_from_fits, use_fits, use_end_fits, use_put, wrap_block_can, wrap_block_does, wrap_tree, wrap_can, wrap_next, wrap_rooted)

@@ -2,7 +2,7 @@
 use Rattle.std.specs.Prelude.{ℕ, ◌+◌, ◌*◌, ◌<◌, ◌≤◌, List, ◌≡◌, length, set}
 use Rattle.rules.specs.Kinds.{Kind}
 use Rattle.rules.specs.Terms.{Term, size}
-use Rattle.rules.specs.FieldUses.{uses, use_number}
+use Rattle.rules.specs.FieldUses.{an_index, uses}
 use Rattle.rules.specs.FreeBounds.{free_bound}
 use Rattle.rules.specs.Indices.{changed, raising, raised_index}
 use Rattle.rules.specs.Format.{Record}
@@ -10,7 +10,7 @@ use Rattle.terms.specs.Preorder.{puts, Apart, head, preorder, At}
 
 -- An index a of a record of kind k can be raised, where it has one.
 pub record FieldFits (n d : ℕ) (k : Kind) (a : ℕ) : Type 0 where
-  pub index : use_number (uses k).a ≡ 1 → raised_index n d a < 65536
+  pub index : (uses k).a ≡ an_index → raised_index n d a < 65536
 
 -- t, at src, can be copied to dst with the indices beyond d binders raised by n: no index and no measure gets too large.
 pub record RaisingAt (rs : List Record) (src dst n d : ℕ) (t : Term) : Type 0 where

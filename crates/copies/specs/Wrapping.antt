@@ -1,12 +1,11 @@
 -- Copies in which each use of a variable is wrapped in a splice.
 use Rattle.std.specs.Prelude.{ℕ, ◌+◌, ◌<◌, List, ◌≡◌, eqb, length}
 use Rattle.rules.specs.Lists.{pick}
-use Rattle.rules.specs.Kinds.{variable, splice, kind_of}
+use Rattle.rules.specs.Kinds.{variable, splice}
 use Rattle.rules.specs.Terms.{Fields, Term, leaf, unary, only_type}
 use Rattle.rules.specs.Indices.{Change, with_index, raised_index}
 use Rattle.rules.specs.Format.{Record}
 use Rattle.terms.specs.Preorder.{head}
-use Rattle.copies.specs.Raising.{FieldFits}
 use Rattle.copies.specs.Copying.{Written}
 
 -- A use of the variable, of type `code` now, in a splice of the type that it had.
@@ -33,9 +32,3 @@ pub record PutsUse (rs rs' : List Record) (dst : ℕ) (r : Record) (code e : ℕ
 -- Two records can be written to dst.
 pub record RoomForUse (rs : List Record) (dst : ℕ) : Type 0 where
   pub two : dst + 1 < length rs
-
--- A root's record with its index, beyond d binders and one, raised by n can be written to dst: the index fits.
-pub record CanWrapRoot (rs : List Record) (dst : ℕ) (r : Record) (n d : ℕ) : Type 0 where
-  pub to : dst < length rs
-  pub deep : d + 1 < 65536
-  pub field : FieldFits n (d + 1) (kind_of r.kind) r.fields.a

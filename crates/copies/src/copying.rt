@@ -31,18 +31,15 @@ pub fn tree_size(w: &[u8], at: usize) -> usize
 fn names_removed(i: u16, d: u16, m: u16) -> bool
     ensures { result ≡ names_removed m d i }
 {
-    if i < d { false } else { i - d < m }
+    d <= i && i - d < m
 }
 
 // Whether a root with so many children, whose bound is above d, is a variable of one of the m binders next to d.
+#[tactic(auto, using(crate::proofs::Parts::parts))]
 pub fn gives_way(children: u16, i: u16, d: u16, m: u16) -> bool
     ensures { result ≡ is_named children m d i }
 {
-    if children == 0 {
-        names_removed(i, d, m)
-    } else {
-        false
-    }
+    children == 0 && names_removed(i, d, m)
 }
 
 // Writes the record with another field a.
@@ -50,14 +47,5 @@ pub fn put_indexed(w: &mut [u8], dst: usize, r: Record, a: u16)
     requires { dst < length (records_in w.old) }
     ensures { PutsIndexed (records_in w.old) (records_in w.new) dst (record_meant r) a }
 {
-    let q = Record {
-        kind: r.kind,
-        ty: r.ty,
-        a,
-        b: r.b,
-        first: r.first,
-        next: r.next,
-        value: r.value,
-    };
-    records::put(w, dst, q);
+    records::put(w, dst, Record { a, ..r });
 }

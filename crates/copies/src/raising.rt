@@ -1,18 +1,14 @@
 // Copies of trees with their indices raised, with the measures of the copies.
 ghost use Rattle.std.specs.Prelude.{◌≡◌, ◌<◌};
-ghost use Rattle.rules.specs.Kinds.{kind_of};
 ghost use Rattle.rules.specs.Indices.{raised_index};
+ghost use Rattle.kinds.specs.Named.{kind_meant};
 ghost use Rattle.records.specs.View.{records_in};
 ghost use Rattle.copies.specs.Roots.{moved_field};
 ghost use Rattle.copies.specs.Raising.{FieldFits, CanRaise, Raises, CanRaiseRoot, RaisesRoot};
 
-use crate::copying::{put_indexed, tree_size};
+use crate::copying::tree_size;
+use kinds::Kind;
 use records::Record;
-use terms::binders_over;
-
-const VARIABLE: u16 = 2;
-
-const MATCH_VARIABLE: u16 = 10;
 
 // An index under d binders that stay, raised by n.
 fn raised_index(i: u16, n: u16, d: u16) -> u16
@@ -23,11 +19,11 @@ fn raised_index(i: u16, n: u16, d: u16) -> u16
 }
 
 // The field a of a record of this kind, raised where it is an index.
-pub fn raised_field(kind: u16, a: u16, n: u16, d: u16) -> u16
-    requires { FieldFits n d (kind_of kind) a }
-    ensures { result ≡ moved_field (raised_index n d) (kind_of kind) a }
+pub fn raised_field(kind: Kind, a: u16, n: u16, d: u16) -> u16
+    requires { FieldFits n d (kind_meant kind) a }
+    ensures { result ≡ moved_field (raised_index n d) (kind_meant kind) a }
 {
-    let indexed = (kind == VARIABLE) as u16 + (kind == MATCH_VARIABLE) as u16;
+    let indexed = (kind == Kind::Variable) as u16 + (kind == Kind::MatchVariable) as u16;
     raised_index(a, n * indexed, d)
 }
 
@@ -37,17 +33,9 @@ fn raise_root(w: &mut [u8], src: usize, dst: usize, n: u16, d: u16)
     ensures { RaisesRoot (records_in w.old) (records_in w.new) src dst n d }
 {
     let r = records::get(w, src);
-    let a = raised_field(r.kind, r.a, n, d);
-    let q = Record {
-        kind: r.kind,
-        ty: r.ty,
-        a,
-        b: r.b,
-        first: r.first,
-        next: r.next + 2 * n,
-        value: r.value,
-    };
-    records::put(w, dst, q);
+    let a = raised_field(Kind::known(r.kind), r.a, n, d);
+    let next = r.next + 2 * n;
+    records::put(w, dst, Record { a, next, ..r });
 }
 
 // Copies the tree at `src` to `dst`, its indices beyond d binders raised by n: record by record, and by a call where the tree binds. The index of a
@@ -61,13 +49,13 @@ pub fn copy_raised(w: &mut [u8], src: usize, dst: usize, n: u16, d: u16)
     while done < all {
         let at = src + done;
         let to = dst + done;
-        let mut r = records::get(w, at);
-        let kind = r.kind;
+        let r = records::get(w, at);
         let size = r.first as usize;
         if size == 1 {
             let raise = n * ((d < r.next / 2) as u16);
-            r.next += 2 * raise;
-            put_indexed(w, to, r, r.a + raise);
+            let a = r.a + raise;
+            let next = r.next + 2 * raise;
+            records::put(w, to, Record { a, next, ..r });
             done += 1;
         } else if r.next / 2 <= d {
             terms::copy_flat(w, at, to, size);
@@ -75,21 +63,18 @@ pub fn copy_raised(w: &mut [u8], src: usize, dst: usize, n: u16, d: u16)
         } else {
             raise_root(w, at, to, n, d);
             done += 1;
-            match kind {
-                3 => {
-                    let body = tree_size(w, src + done);
-                    copy_raised(w, src + done, dst + done, n, d + 1);
-                    done += body;
-                }
-                11..=14 => {
-                    let code = tree_size(w, src + done);
-                    copy_raised(w, src + done, dst + done, n, d);
-                    done += code;
-                    let success = tree_size(w, src + done);
-                    copy_raised(w, src + done, dst + done, n, d + binders_over(kind, 1));
-                    done += success;
-                }
-                _ => {}
+            let kind = Kind::known(r.kind);
+            if kind.binders_first() == 1 {
+                let body = tree_size(w, src + done);
+                copy_raised(w, src + done, dst + done, n, d + 1);
+                done += body;
+            } else if kind.binders_second() != 0 {
+                let code = tree_size(w, src + done);
+                copy_raised(w, src + done, dst + done, n, d);
+                done += code;
+                let success = tree_size(w, src + done);
+                copy_raised(w, src + done, dst + done, n, d + kind.binders_second());
+                done += success;
             }
         }
     }

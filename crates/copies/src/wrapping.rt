@@ -1,34 +1,23 @@
 // A copy of a tree with each use of a variable wrapped in a splice, with the measures of the copy.
 ghost use Rattle.std.specs.Prelude.{◌+◌, ◌<◌};
-ghost use Rattle.rules.specs.Indices.{raised_index};
 ghost use Rattle.records.specs.View.{records_in};
 ghost use Rattle.records.specs.Meant.{record_meant};
-ghost use Rattle.copies.specs.Copying.{CanCopy, Copies, MovesRoot};
-ghost use Rattle.copies.specs.Wrapping.{Wrapping, RoomForUse, CanWrapRoot, PutsUse};
+ghost use Rattle.copies.specs.Copying.{CanCopy, Copies};
+ghost use Rattle.copies.specs.Wrapping.{Wrapping, RoomForUse, PutsUse};
 
 use crate::copying::{copy_block, gives_way, put_indexed};
 use crate::raising::{copy_raised, raised_field};
+use kinds::Kind;
 use records::Record;
 use terms::{binders_over, mark_root, skip};
-
-const SPLICE: u16 = 8;
 
 // Writes a use of the variable, whose record is r, of type `code` now, in a splice of the type that it had. Returns the place after both.
 fn put_use(w: &mut [u8], dst: usize, r: Record, code: u16) -> usize
     requires { RoomForUse (records_in w.old) dst }
     ensures { PutsUse (records_in w.old) (records_in w.new) dst (record_meant r) code result }
 {
-    let used = Record {
-        kind: r.kind,
-        ty: code,
-        a: r.a,
-        b: r.b,
-        first: r.first,
-        next: r.next,
-        value: r.value,
-    };
     let splice = Record {
-        kind: SPLICE,
+        kind: Kind::Splice.number(),
         ty: r.ty,
         a: 0,
         b: 0,
@@ -36,18 +25,9 @@ fn put_use(w: &mut [u8], dst: usize, r: Record, code: u16) -> usize
         next: 2 * (r.next / 2),
         value: 0,
     };
-    records::put(w, dst + 1, used);
+    records::put(w, dst + 1, Record { ty: code, ..r });
     records::put(w, dst, splice);
     dst + 2
-}
-
-// Writes a root that is no such use: the variable of the binder next to d keeps its index, and those beyond are raised by n.
-fn wrap_root(w: &mut [u8], dst: usize, r: Record, n: u16, d: u16)
-    requires { CanWrapRoot (records_in w.old) dst (record_meant r) n d }
-    ensures { MovesRoot (raised_index n (d + 1)) (records_in w.old) (records_in w.new) dst (record_meant r) }
-{
-    let a = raised_field(r.kind, r.a, n, d + 1);
-    put_indexed(w, dst, r, a);
 }
 
 // Copies the tree at `src` to `dst`, each use of the variable of the binder next to d of its own wrapped in a splice, in which it has the type
@@ -60,8 +40,8 @@ pub fn copy_wrapped(w: &mut [u8], src: usize, dst: usize, n: u16, d: u16, code: 
 {
     let r = records::get(w, src);
     let bound = r.next / 2;
-    let kind = r.kind;
-    let children = kinds::children(kind);
+    let kind = Kind::known(r.kind);
+    let children = kind.children();
     if gives_way(children, bound, d + 1, 1) {
         return put_use(w, dst, r, code);
     }
@@ -72,15 +52,14 @@ pub fn copy_wrapped(w: &mut [u8], src: usize, dst: usize, n: u16, d: u16, code: 
     if bound <= d {
         return copy_block(w, src, dst, r.first as usize);
     }
-    wrap_root(w, dst, r, n, d);
+    let a = raised_field(kind, r.a, n, d + 1);
+    put_indexed(w, dst, r, a);
     let mut at = src + 1;
     let mut to = dst + 1;
-    let mut j: u16 = 0;
-    while j < children {
+    for j in 0..children {
         let after = skip(w, at);
         to = copy_wrapped(w, at, to, n, d + binders_over(kind, j), code);
         at = after;
-        j += 1;
     }
     mark_root(w, dst)
 }

@@ -5,7 +5,7 @@ use mathlib.Core.Option.{Option, none, some}
 use mathlib.Core.Path.{◌≡◌, ap, ◌∙◌}
 use borrow.Author.Tests.{ne_eqb}
 use Rattle.std.specs.Prelude.{Err}
-use Rattle.rules.proofs.General.{picked}
+use Rattle.rules.proofs.General.{picked, Gives}
 use Rattle.rules.specs.Kinds.{Kind as MeantKind}
 use Rattle.rules.specs.Terms.{Fields}
 use Rattle.rules.specs.Types.{Table}
@@ -15,7 +15,11 @@ use Rattle.rules.specs.Refusals.{Refusal, bad_index, bad_level, bad_type, unless
 use Rattle.rules.specs.Check.{judged}
 use Rattle.refusals.specs.declared.reasons.Reason.{Reason}
 use Rattle.refusals.specs.Reports.{reason_number}
-use Rattle.judging.specs.Tests.{refusal_at, OfJudging, Names}
+use Rattle.judging.specs.Tests.{refusal_at, Names}
+
+-- A refusal, if any, is by a number of 10 to 12.
+abbrev pub OfJudging : Option Refusal → Type 0
+OfJudging = Gives (λ r. (bad_index ≤ r.number) × (r.number ≤ bad_type))
 
 pub then_of_judging : (o p : Option Refusal) → OfJudging o → OfJudging p → OfJudging (o then p)
 unfolding ◌then◌

@@ -78,11 +78,6 @@ refusal_at number place = pick (eqb number 0) none (some (record { number = numb
 pub record Judges (types : Table) (Γ : Env) (l : ℕ) (kind : Kind) (r : Record) (x y z q : ℕ) : Type 0 where
   pub tells : (n : ℕ) → refusal_at q n ≡ judged types Γ l n (kind_meant kind) (fields_meant r) x y z
 
--- A refusal, if any, is by a number of 10 to 12.
-abbrev pub OfJudging : Option Refusal → Type 0
-OfJudging none = Unit {0}
-OfJudging (some r) = (bad_index ≤ r.number) × (r.number ≤ bad_type)
-
 -- What a number says that `judge` answers: where it is 0 nothing is refused, and else the reason of that number.
 abbrev pub Names : ℕ → Result Unit Reason → Type 0
 Names number (Ok x) = number ≡ 0

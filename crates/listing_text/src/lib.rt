@@ -5,55 +5,31 @@
 ghost use Rattle.std.specs.Prelude.{[], ◌∷◌, ◌<◌};
 ghost use Rattle.records.specs.View.{records_in};
 ghost use Rattle.records.specs.Meant.{record_meant};
-ghost use Rattle.listing_text.specs.Decimal.{IsDigit, decimal};
+ghost use Rattle.listing_text.specs.Decimal.{decimal};
 ghost use Rattle.listing_text.specs.Text.{spaced, numbers, ending_word, refused_text, first_line, record_line, record_lines, accepted_text};
 ghost use Rattle.listing_text.specs.Parts.{RoomForPart, WroteText};
 ghost use Rattle.listing_text.specs.Buffers.{RoomForRecords, OneLine, Listable, Prints};
 
+use itoa::Buffer;
 use records::Record;
 
-// One byte.
-fn put_byte(text: &mut [u8], at: usize, byte: u8) -> usize
-    requires { RoomForPart text.old at (byte ∷ []) }
-    ensures { WroteText text.old at (byte ∷ []) text.new result }
+// These bytes.
+fn put_bytes(text: &mut [u8], at: usize, bytes: &[u8]) -> usize
+    requires { RoomForPart text.old at bytes.now }
+    ensures { WroteText text.old at bytes.now text.new result }
 {
-    let next = at + 1;
-    text[at] = byte;
-    next
+    let end = at + bytes.len();
+    text[at..end].copy_from_slice(bytes);
+    end
 }
 
-// The bytes of a word.
-fn put_word(text: &mut [u8], at: usize, word: &[u8]) -> usize
-    requires { RoomForPart text.old at word.now }
-    ensures { WroteText text.old at word.now text.new result }
-{
-    let mut place = at;
-    let mut i = 0;
-    while i < word.len() {
-        place = put_byte(text, place, word[i]);
-        i += 1;
-    }
-    place
-}
-
-// The digit of a number below 10.
-fn digit_of(n: u32) -> u8
-    requires { n < 10 }
-    ensures { IsDigit n result }
-{
-    (48 + n) as u8
-}
-
-// The digits of a number: those of its tens, then that of its ones.
+// The digits of a number. By `write!` they would be promised only where it returns Ok, and nothing says that it does.
 fn put_decimal(text: &mut [u8], at: usize, n: u32) -> usize
     requires { RoomForPart text.old at (decimal n) }
     ensures { WroteText text.old at (decimal n) text.new result }
 {
-    if n < 10 {
-        return put_byte(text, at, digit_of(n));
-    }
-    let place = put_decimal(text, at, n / 10);
-    put_byte(text, place, digit_of(n % 10))
+    let mut buffer = Buffer::new();
+    put_bytes(text, at, buffer.format(n).as_bytes())
 }
 
 // A space and a number.
@@ -61,7 +37,7 @@ fn put_spaced(text: &mut [u8], at: usize, n: u32) -> usize
     requires { RoomForPart text.old at (spaced n) }
     ensures { WroteText text.old at (spaced n) text.new result }
 {
-    let place = put_byte(text, at, b' ');
+    let place = put_bytes(text, at, b" ");
     put_decimal(text, place, n)
 }
 
@@ -71,12 +47,10 @@ fn put_numbers(text: &mut [u8], at: usize, ns: &[u32]) -> usize
     ensures { WroteText text.old at (numbers ns.now) text.new result }
 {
     let mut place = at;
-    let mut i = 0;
-    while i < ns.len() {
-        place = put_spaced(text, place, ns[i]);
-        i += 1;
+    for n in ns {
+        place = put_spaced(text, place, *n);
     }
-    put_byte(text, place, b'\n')
+    put_bytes(text, place, b"\n")
 }
 
 // The word of an ending.
@@ -85,9 +59,9 @@ fn put_ending(text: &mut [u8], ending: u32) -> usize
     ensures { WroteText text.old 0 (ending_word ending) text.new result }
 {
     match ending {
-        1 => put_word(text, 0, b"value"),
-        2 => put_word(text, 0, b"spent"),
-        _ => put_word(text, 0, b"full"),
+        1 => put_bytes(text, 0, b"value"),
+        2 => put_bytes(text, 0, b"spent"),
+        _ => put_bytes(text, 0, b"full"),
     }
 }
 
@@ -124,11 +98,10 @@ fn put_records(text: &mut [u8], at: usize, records: &[u8], count: usize) -> usiz
     ensures { WroteText text.old at (record_lines 1 (records_in records.now)) text.new result }
 {
     let mut place = at;
-    let mut i = 0;
-    while i < count {
+    for i in 0..count {
+        let n = (i + 1) as u32;
         let r = records::get(records, i);
-        i += 1;
-        place = put_record(text, place, i as u32, r);
+        place = put_record(text, place, n, r);
     }
     place
 }
@@ -138,7 +111,7 @@ pub fn refused_text(number: u32, place: u32, text: &mut [u8]) -> usize
     requires { OneLine text.old }
     ensures { Prints text.old (refused_text number place) text.new result }
 {
-    let at = put_word(text, 0, b"refused");
+    let at = put_bytes(text, 0, b"refused");
     put_numbers(text, at, &[number, place])
 }
 

@@ -8,12 +8,11 @@ use lib.ListN.{length, get_or, set, length-set}
 use lib.Seq.{get_or-set_same, set-set}
 use mir.Syntax.{w64}
 use mir.Val.{Fits}
-use Rattle.rules.specs.Kinds.{Unary, function, quote, unary₁, kind_number}
+use Rattle.rules.specs.Kinds.{Unary, function, quote, Kind, unary₁, kind_number}
 use Rattle.rules.specs.Terms.{Term, unary, size}
 use Rattle.rules.specs.FreeBounds.{free_bound}
 use Rattle.rules.specs.Indices.{changed, raised, wrapped}
 use Rattle.rules.specs.Format.{Record, no_record}
-use Rattle.rules.proofs.Laid.{size_some}
 use Rattle.rules.proofs.Shifts.{raised_none}
 use Rattle.rules.proofs.ChangedBounds.{raised_most}
 use Rattle.records.specs.View.{records_in}
@@ -25,7 +24,6 @@ use Rattle.terms.specs.Children.{kids, preorders}
 use Rattle.terms.specs.Measuring.{RootedAt, HasRooted, MarksRoot}
 use Rattle.terms.proofs.There.{there_put, there_set_stays}
 use Rattle.terms.proofs.Trees.{length_preorder, at_first, at_within}
-use Rattle.substitution.specs.declared.arguments.Argument.{Argument}
 use Rattle.substitution.specs.declared.arguments.Argument.TheVariants.{Tree, Quote, Opened}
 use Rattle.substitution.specs.Arguments.{place_of, function_fields, described}
 use Rattle.copies.specs.Raising.{RaisingAt, CanRaise, Raises}
@@ -37,20 +35,17 @@ use Rattle.terms.proofs.Puts.{put_before}
 use Rattle.copies.proofs.WrappedCopies.{wraps_raised, wrapping_sound}
 
 -- `put_over`
-module _ (rs : List Record) (dst kind : ℕ) where
-  pub over_in : CanPutOver rs dst kind → dst < length rs
-  over_in h = omega (arith, at_first rs (dst + 1) h.tree h.under.there)
-
-  module _ (rs₁ : List Record) (ty a : ℕ) (w : rs₁ ≡ set rs dst (record { kind = kind; fields = function_fields ty a; first = 0; next = 0 })) where
-    over_rooted : (k : Unary) (u : Term) → kind ≡ kind_number (unary₁ k) → UnderRoot rs dst u → RootedAt rs₁ dst (unary k (function_fields ty a) u)
+module _ (rs : List Record) (dst : ℕ) (kind : Kind) where
+  module _ (n : ℕ) (m : n ≡ kind_number kind) (rs₁ : List Record) (ty a : ℕ) (w : rs₁ ≡ set rs dst (record { kind = n; fields = function_fields ty a; first = 0; next = 0 })) where
+    over_rooted : (k : Unary) (u : Term) → kind ≡ unary₁ k → UnderRoot rs dst u → RootedAt rs₁ dst (unary k (function_fields ty a) u)
     unfolding size free_bound kids preorders
     over_rooted k u e h =
         let l : dst < length rs = omega (arith, at_first rs (dst + 1) u h.there) in
-        let q : Record = record { kind = kind; fields = function_fields ty a; first = 0; next = 0 } in
+        let q : Record = record { kind = n; fields = function_fields ty a; first = 0; next = 0 } in
         let x = ap (λ z. get_or z dst no_record) w ∙ get_or-set_same rs dst q no_record l in
         record {
           within = omega (arith, ap length w ∙ length-set rs dst q);
-          kind = ap (λ z. z.kind) x ∙ e;
+          kind = ap (λ z. z.kind) x ∙ m ∙ ap kind_number e;
           fields = ap (λ z. z.fields) x;
           children = rw (w, append-nil) (there_set_stays rs dst q (dst + 1) (preorder u) (inr (omega arith)) h.there.there);
           few = omega (arith, h.few);
@@ -73,10 +68,10 @@ module _ (rs rs₁ : List Record) (dst e : ℕ) (u : Term) (w : Written rs rs₁
   under_root : UnderRoot rs₁ dst u
   under_root = record { there = record { there = rw w.records (there_put rs (dst + 1) (preorder u) (omega (arith, length_preorder u))) }; few = f; low = l }
 
-  can_over : (k : Unary) → CanPutOver rs₁ dst (kind_number (unary₁ k))
+  can_over : (k : Unary) → CanPutOver rs₁ dst (unary₁ k)
   can_over k = record { sort = k; is = refl; tree = u; under = under_root }
 
-  over_written : (k : Unary) (rs₂ : List Record) (ty a r : ℕ) → PutsOver rs₁ rs₂ dst (kind_number (unary₁ k)) ty a r → Written rs rs₂ dst (unary k (function_fields ty a) u) r
+  over_written : (k : Unary) (rs₂ : List Record) (ty a r : ℕ) → PutsOver rs₁ rs₂ dst (unary₁ k) ty a r → Written rs rs₂ dst (unary k (function_fields ty a) u) r
   unfolding preorder size
   over_written k rs₂ ty a r p =
       let (x, y) = p.does k u refl under_root in
@@ -174,12 +169,12 @@ module _ (rs : List Record) (at ty dst n : ℕ) where
   quoted_copies h = record { lo = h.lo; hi = h.hi; term = _; makes = quoted_makes _ _ _ h.makes }
 
   module _ (rs₁ : List Record) (e : ℕ) (w : CopiesArgument rs rs₁ (Tree at) (dst + 1) n e) where
-    pub quoted_over : CanCopyArgument rs (Quote at ty) dst n → CanPutOver rs₁ dst 7
+    pub quoted_over : CanCopyArgument rs (Quote at ty) dst n → CanPutOver rs₁ dst (unary₁ quote)
     quoted_over h =
         let m = h.makes in
         can_over rs rs₁ dst e _ (w.does _ _ _ (quoted_makes _ _ _ m)) (quoted_room _ _ _ m) (quoted_few _ _ _ m) (quoted_low _ _ _ m) quote
 
-    pub quoted_does : (rs₂ : List Record) (r : ℕ) → PutsOver rs₁ rs₂ dst 7 ty 0 r → CopiesArgument rs rs₂ (Quote at ty) dst n r
+    pub quoted_does : (rs₂ : List Record) (r : ℕ) → PutsOver rs₁ rs₂ dst (unary₁ quote) ty 0 r → CopiesArgument rs rs₂ (Quote at ty) dst n r
     unfolding described raised changed
     quoted_does rs₂ r p = record {
       does = λ lo hi t h.
@@ -231,7 +226,7 @@ module _ (rs : List Record) (at ty a b dst n : ℕ) where
       opened_low : 2 * free_bound (opened_body opened_tree) + 1 < 65536
       opened_low = omega (arith, (wrapping_sound n a).reach rs lo hi n (wrapping_under n a) (record { change = refl; reach = refl }) 0 opened_tree, h.low)
 
-      module _ (rs₂ : List Record) (o : ℕ) (q : PutsOver rs₁ rs₂ (dst + 1) 7 b 0 o) where
+      module _ (rs₂ : List Record) (o : ℕ) (q : PutsOver rs₁ rs₂ (dst + 1) (unary₁ quote) b 0 o) where
         abbrev opened_quote : Term
         opened_quote = unary quote (function_fields b 0) (opened_body opened_tree)
 
@@ -262,13 +257,13 @@ module _ (rs : List Record) (at ty a b dst n : ℕ) where
   }
 
   module _ (rs₁ : List Record) (e : ℕ) (w : Copies (Wrapping n a) rs rs₁ at (dst + 1 + 1) 0 e) where
-    pub opened_inner : CanCopyArgument rs (Opened at ty a b) dst n → CanPutOver rs₁ (dst + 1) 7
+    pub opened_inner : CanCopyArgument rs (Opened at ty a b) dst n → CanPutOver rs₁ (dst + 1) (unary₁ quote)
     opened_inner h =
         let m = h.makes in
         can_over rs rs₁ (dst + 1) e _ (opened_written _ _ _ m rs₁ e w) (opened_room _ _ _ m rs₁ e w) (omega (arith, opened_few _ _ _ m rs₁ e w)) (opened_low _ _ _ m rs₁ e w) quote
 
-    module _ (rs₂ : List Record) (o : ℕ) (q : PutsOver rs₁ rs₂ (dst + 1) 7 b 0 o) where
-      pub opened_does : (rs₃ : List Record) (r : ℕ) → PutsOver rs₂ rs₃ dst 3 ty a r → CopiesArgument rs rs₃ (Opened at ty a b) dst n r
+    module _ (rs₂ : List Record) (o : ℕ) (q : PutsOver rs₁ rs₂ (dst + 1) (unary₁ quote) b 0 o) where
+      pub opened_does : (rs₃ : List Record) (r : ℕ) → PutsOver rs₂ rs₃ dst (unary₁ function) ty a r → CopiesArgument rs rs₃ (Opened at ty a b) dst n r
       opened_does rs₃ r p = record {
         does = λ lo hi t h.
             rw (opened_is lo hi t h)
@@ -277,7 +272,7 @@ module _ (rs : List Record) (at ty a b dst n : ℕ) where
 
 -- The function comes over the quote.
 pub opened_outer : (rs : List Record) (at ty a b dst n : ℕ) → CanCopyArgument rs (Opened at ty a b) dst n → (rs₁ : List Record) (e : ℕ) → Copies (Wrapping n a) rs rs₁ at (dst + 1 + 1) 0 e
-    → (rs₂ : List Record) (o : ℕ) → PutsOver rs₁ rs₂ (dst + 1) 7 b 0 o → (rs₃ : List Record) → rs₃ ≡ rs₂ → CanPutOver rs₃ dst 3
+    → (rs₂ : List Record) (o : ℕ) → PutsOver rs₁ rs₂ (dst + 1) (unary₁ quote) b 0 o → (rs₃ : List Record) → rs₃ ≡ rs₂ → CanPutOver rs₃ dst (unary₁ function)
 opened_outer rs at ty a b dst n h rs₁ e w rs₂ o q rs₃ z = rw z (
     let m = h.makes in
     can_over rs rs₂ dst o _
@@ -287,19 +282,5 @@ opened_outer rs at ty a b dst n h rs₁ e w rs₂ o q rs₃ z = rw z (
     (quote_low rs at ty a b dst n _ _ _ m rs₁ e w rs₂ o q)
     function)
 
--- Places.
-pub made_fits : (s : List ℕ) (g : Argument) (dst n : ℕ) → CanCopyArgument (records_in s) g dst n → length s < 2 ^ 64 → Fits w64 (dst + 1)
-made_fits s g dst n h b = omega (arith, h.makes.room, h.makes.within, size_some h.term, records_length s)
-
-pub made_inner_fits : (s : List ℕ) (at ty a b dst n : ℕ) → CanCopyArgument (records_in s) (Opened at ty a b) dst n → length s < 2 ^ 64 → Fits w64 (dst + 1 + 1)
-made_inner_fits s at ty a b dst n h l = omega (arith, h.makes.room, h.makes.within, size_some h.term, records_length s)
-
--- `copy_argument`
-pub argument_can : (rs : List Record) (g g' : Argument) (dst n : ℕ) → g ≡ g' → CanCopyArgument rs g dst n → CanCopyArgument rs g' dst n
-argument_can rs g g' dst n e h = rw (← e) h
-
-pub argument_does : (rs rs' : List Record) (g g' : Argument) (dst n r : ℕ) → g ≡ g' → CopiesArgument rs rs' g' dst n r → CopiesArgument rs rs' g dst n r
-argument_does rs rs' g g' dst n r e h = rw e h
-
 pub ruleset making =
-    (over_in, over_can, over_puts, tree_there, tree_raises, tree_moves, tree_moved, tree_does, tree_fits, quoted_copies, quoted_over, quoted_does, opened_wraps, opened_inner, opened_outer, opened_does, made_fits, made_inner_fits, argument_can, argument_does)
+    (over_can, over_puts, tree_there, tree_raises, tree_moves, tree_moved, tree_does, tree_fits, quoted_copies, quoted_over, quoted_does, opened_wraps, opened_inner, opened_outer, opened_does)

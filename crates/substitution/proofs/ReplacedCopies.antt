@@ -10,10 +10,10 @@ use mathlib.Core.Path.{◌≡◌, refl, sym, ap, ◌∙◌}
 use lib.Dec.{eqb, ltb}
 use lib.ListN.{length, get_or}
 use borrow.Author.Tests.{lt-ltb, le-ltb, eq-eqb, ne_eqb}
-use mir.Syntax.{w16, w64}
+use mir.Syntax.{w64}
 use mir.Val.{Fits}
 use Rattle.rules.specs.Lists.{pick, All}
-use Rattle.rules.specs.Kinds.{variable, child_count, kind_of}
+use Rattle.rules.specs.Kinds.{variable, Kind, child_count, kind_of}
 use Rattle.rules.specs.Terms.{Fields, Term, leaf, root_kind, size}
 use Rattle.rules.specs.FreeBounds.{free_bound}
 use Rattle.rules.specs.Indices.{Change, with_index, changed, raised, lowered_index, replacing, wrapped, names_removed, summed, gives, gave_way}
@@ -23,6 +23,7 @@ use Rattle.rules.proofs.Shifts.{unnamed}
 use Rattle.rules.proofs.FreeBounds.{replacing_low}
 use Rattle.rules.proofs.ChangedBounds.{bound_wrapped, bound_replaced}
 use Rattle.rules.proofs.Events.{gave_most}
+use Rattle.kinds.specs.Named.{IsKind}
 use Rattle.records.specs.View.{records_in}
 use Rattle.terms.specs.Preorder.{head, At, HasTree, Skips}
 use Rattle.terms.specs.Moves.{CanMove}
@@ -32,14 +33,16 @@ use Rattle.substitution.specs.declared.arguments.Argument.TheVariants.{Tree, Quo
 use Rattle.substitution.specs.declared.arguments.Arguments.{Arguments}
 use Rattle.substitution.specs.declared.replacing.Copied.{Copied}
 use Rattle.substitution.specs.Arguments.{described}
-use Rattle.copies.specs.Copying.{CopyAt, CanCopy, BlockMoved, is_named, MovesRoot}
+use Rattle.copies.specs.Roots.{moved_field}
+use Rattle.copies.specs.Copying.{CopyAt, CanCopy, BlockMoved, is_named, MovesRoot, PutsIndexed}
 use Rattle.substitution.specs.Making.{MakingAt, CanCopyArgument, CopiesArgument}
 use Rattle.substitution.specs.Replacing.{Given, Replacing, Replaces}
 use Rattle.copies.proofs.RaisedRoots.{size_raised}
 use Rattle.copies.proofs.Rows.{child}
+use Rattle.copies.proofs.Parts.{root_known, root_moves}
 use Rattle.substitution.proofs.Sums.{block_gives_none, Adding, adding_starts, adding_next, adding_most, adding_ends}
-use Rattle.copies.proofs.Copies.{Stays, tree_stays, Sound, Spot, named, read_root, read_bound, read_spot, RootOf, Copying, root_of, block_can, block_does, copy_in, copy_to, copy_from_fits, copy_to_fits}
-use Rattle.copies.proofs.Copies.{copy_starts, copy_ends, copy_rooted, copy_falls, next_one, next_meant, next_copy, over, turn_tree, turn_count, turn_deep, turn_can, turn_next}
+use Rattle.copies.proofs.Copies.{Stays, tree_stays, Sound, Spot, named, read_root, read_bound, read_spot, RootOf, Copying, root_of, block_can, block_does, copy_in, copy_to, copy_from_fits}
+use Rattle.copies.proofs.Copies.{copy_starts, copy_ends, copy_rooted, copy_falls, next_one, next_meant, next_copy, over, turn_tree, turn_can, turn_next}
 
 -- `lowered_index`
 pub lowered_stays : (i m d : ℕ) → i < d → i ≡ lowered_index m d i
@@ -114,9 +117,13 @@ names_within m d i e = elim (dec_lt i d) [
   ]
 ]
 
+-- The kind of its root is known.
+pub replaced_known : (rs : List Record) (src dst d : ℕ) (g : Arguments) (r : Record) → r ≡ get_or rs src no_record → CanCopy (Replacing g) rs src dst d → IsKind r.kind
+replaced_known rs src dst d g r e h = root_known rs src r e h.tree h.copy.there
+
 -- A variable that gives way.
-module _ (rs : List Record) (src dst d : ℕ) (g : Arguments) (r : Record) (e : r ≡ get_or rs src no_record) (l : d < r.next / 2) (k : ℕ) (o : k ≡ child_count (kind_of r.kind)) (x : Bool)
-    (i : x ≡ is_named k g.count d r.fields.a) (y : x ≡ true) where
+module _ (rs : List Record) (src dst d : ℕ) (g : Arguments) (r : Record) (e : r ≡ get_or rs src no_record) (l : d < r.next / 2) (kd : Kind) (u : kd ≡ kind_of r.kind) (k : ℕ) (o : k ≡ child_count kd)
+    (x : Bool) (i : x ≡ is_named k g.count d r.fields.a) (y : x ≡ true) where
   record Use (t : Term) : Type 0 where
     fields : Fields
     is : t ≡ leaf variable fields
@@ -126,7 +133,7 @@ module _ (rs : List Record) (src dst d : ℕ) (g : Arguments) (r : Record) (e : 
     to : fields.a < d + g.count
 
   is_use : (t : Term) → At rs src t → Use t
-  is_use t h = told (rw (← i, y) at (read_spot rs src r e t h g.count d l k o))
+  is_use t h = told (rw (← i, y) at (read_spot rs src r e t h g.count d l k (o ∙ ap child_count u)))
     where
       told : Spot g.count d t true → Use t
       told (named f p q) =
@@ -194,35 +201,43 @@ block_replaces rs src dst d g r e l rs' o w = record {
 
 -- The loop over the children: of the n children of the root at src, child j is the next to be copied, from `at` to `to`, and z variables gave way
 -- in those before it.
-pub record ReplacingChildren (g : Arguments) (rs₁ : List Record) (src dst d k n : ℕ) (rs : List Record) (at to z j : ℕ) : Type 0 where
-  count : n ≡ child_count (kind_of k)
+pub record ReplacingChildren (g : Arguments) (rs₁ : List Record) (src dst d : ℕ) (k : Kind) (n : ℕ) (rs : List Record) (at to z j : ℕ) : Type 0 where
+  count : n ≡ child_count k
   copying : Copying (Replacing g) g.count rs₁ src dst d k rs at to j
   adding : Adding (RootOf (Replacing g) g.count rs₁ src dst d k) (gives g.count) 0 d j z
 
--- A root that stays.
-module _ (rs : List Record) (src dst d : ℕ) (g : Arguments) (r : Record) (rs₁ : List Record) (w : MovesRoot (lowered_index g.count d) rs rs₁ dst r) (e : r ≡ get_or rs src no_record)
-    (l : d < r.next / 2) (n : ℕ) (o : n ≡ child_count (kind_of r.kind)) (x : Bool) (i : x ≡ is_named n g.count d r.fields.a) (y : x ≡ false) where
-  pub children_start : CanCopy (Replacing g) rs src dst d → (k : ℕ) → k ≡ r.kind → ReplacingChildren g rs₁ src dst d k n rs₁ (src + 1) (dst + 1) 0 0
-  children_start h k q = rw q (record {
-    count = o;
-    copying = copy_starts (Replacing g) g.count _ (replacing_sound g) rs src dst d r e l n o x i y rs₁ w h;
+-- A root that stays is written with the index a.
+module _ (rs : List Record) (src dst d : ℕ) (g : Arguments) (r : Record) (e : r ≡ get_or rs src no_record) (l : d < r.next / 2) (k : Kind) (u : k ≡ kind_of r.kind) (n : ℕ) (o : n ≡ child_count k)
+    (x : Bool) (i : x ≡ is_named n g.count d r.fields.a) (y : x ≡ false) (a : ℕ) (m : a ≡ moved_field (lowered_index g.count d) k r.fields.a) (rs₁ : List Record) (w : PutsIndexed rs rs₁ dst r a) where
+  count_read : n ≡ child_count (kind_of r.kind)
+  count_read = o ∙ ap child_count u
+
+  moves : MovesRoot (lowered_index g.count d) rs rs₁ dst r
+  moves = root_moves (lowered_index g.count d) rs rs₁ dst r k u a m w
+
+  pub children_start : CanCopy (Replacing g) rs src dst d → ReplacingChildren g rs₁ src dst d k n rs₁ (src + 1) (dst + 1) 0 0
+  children_start h = rw u (record {
+    count = count_read;
+    copying = copy_starts (Replacing g) g.count _ (replacing_sound g) rs src dst d r e l n count_read x i y rs₁ moves h;
     adding = adding_starts _ (gives g.count) 0 d (λ t v f q. ap (λ z. pick {A = ℕ} z 1 0) (v.rooted.unnamed f q));
   })
 
   -- Once its children are copied, the copy is whole, and all that gave way are counted.
-  pub root_replaces : (rs₂ : List Record) (at to z j : ℕ) → ReplacingChildren g rs₁ src dst d r.kind n rs₂ at to z j → n ≤ j → (rs₃ : List Record) (end : ℕ) → MarksRoot rs₂ rs₃ dst end
+  pub root_replaces : (rs₂ : List Record) (at to z j : ℕ) → ReplacingChildren g rs₁ src dst d k n rs₂ at to z j → n ≤ j → (rs₃ : List Record) (end : ℕ) → MarksRoot rs₂ rs₃ dst end
       → Replaces rs rs₃ src dst d g (record { end = end; replaced = z })
   unfolding gave_way
-  root_replaces rs₂ at to z j p q rs₃ end k = record {
-    copies = copy_ends (Replacing g) g.count _ (replacing_sound g) rs src dst d r e l n o x i y rs₁ w rs₂ at to j p.copying q rs₃ end k;
-    counts = record {
-      is = λ lo hi b c t s h.
-          let v = root_of (Replacing g) g.count (λ d. lowered_index g.count d) (replacing_sound g) rs src dst d r e l n o x i y rs₁ w lo hi b c t s h in
-          adding_ends (RootOf (Replacing g) g.count rs₁ src dst d r.kind) (gives g.count) 0 d j z p.adding t v (omega (arith, o, ap child_count v.rooted.kind));
-    };
-  }
+  root_replaces rs₂ at to z j p q rs₃ end s =
+      let p′ = rw u at p in
+      record {
+        copies = copy_ends (Replacing g) g.count _ (replacing_sound g) rs src dst d r e l n count_read x i y rs₁ moves rs₂ at to j p′.copying q rs₃ end s;
+        counts = record {
+          is = λ lo hi b c t s h.
+              let v = root_of (Replacing g) g.count (λ d. lowered_index g.count d) (replacing_sound g) rs src dst d r e l n count_read x i y rs₁ moves lo hi b c t s h in
+              adding_ends (RootOf (Replacing g) g.count rs₁ src dst d (kind_of r.kind)) (gives g.count) 0 d j z p′.adding t v (omega (arith, count_read, ap child_count v.rooted.kind));
+        };
+      }
 
-module _ (g : Arguments) (rs₁ : List Record) (src dst d k n : ℕ) (rs : List Record) (at to z j : ℕ) (p : ReplacingChildren g rs₁ src dst d k n rs at to z j) where
+module _ (g : Arguments) (rs₁ : List Record) (src dst d : ℕ) (k : Kind) (n : ℕ) (rs : List Record) (at to z j : ℕ) (p : ReplacingChildren g rs₁ src dst d k n rs at to z j) where
   -- All children are copied.
   pub children_copied : n ≤ j → HasRooted rs dst
   children_copied l = copy_rooted (Replacing g) g.count _ (replacing_sound g) rs₁ src dst d k rs at to j n p.copying p.count l
@@ -232,13 +247,7 @@ module _ (g : Arguments) (rs₁ : List Record) (src dst d k n : ℕ) (rs : List 
     pub child_tree : HasTree rs at
     child_tree = turn_tree (Replacing g) g.count _ (replacing_sound g) rs₁ src dst d k rs at to j n p.copying p.count l
 
-    pub child_counts : Fits w16 (j + 1)
-    child_counts = turn_count (Replacing g) g.count _ (replacing_sound g) rs₁ src dst d k rs at to j n p.copying p.count l
-
-    module _ (u : ℕ) (b : u ≡ binders_over (kind_of k) j) where
-      pub child_deep : (e : ℕ) → e ≡ d + u → Fits w16 e
-      child_deep e q = rw q (turn_deep (Replacing g) g.count _ (replacing_sound g) rs₁ src dst d k rs at to j n p.copying p.count l u b)
-
+    module _ (u : ℕ) (b : u ≡ binders_over k j) where
       pub child_can : (g' : Arguments) (e : ℕ) → g' ≡ g → e ≡ d + u → CanCopy (Replacing g') rs at to e
       child_can g' e x y = rw (x, y) (turn_can (Replacing g) g.count _ (replacing_sound g) rs₁ src dst d k rs at to j n p.copying p.count l u b)
 
@@ -262,8 +271,8 @@ module _ (g : Arguments) (rs₁ : List Record) (src dst d k n : ℕ) (rs : List 
             omega (arith, adding_most _ (gives g.count) 0 d j z p.adding r.replaced counted v.tree v.of, gave_most g.count d v.tree, v.of.rooted.fits.low)
 
 -- The child is copied, and the one after it is next.
-pub child_replaced : (g : Arguments) (rs rs' : List Record) (at to d u : ℕ) (r : Copied) → Replaces rs rs' at to (d + u) g r → (rs₁ : List Record) (src dst k n z j : ℕ)
-    → ReplacingChildren g rs₁ src dst d k n rs at to z j → (end : ℕ) → Skips rs at end → j < n → u ≡ binders_over (kind_of k) j → (to' z' : ℕ) → to' ≡ r.end → z' ≡ z + r.replaced
+pub child_replaced : (g : Arguments) (rs rs' : List Record) (at to d u : ℕ) (r : Copied) → Replaces rs rs' at to (d + u) g r → (rs₁ : List Record) (src dst : ℕ) (k : Kind) (n z j : ℕ)
+    → ReplacingChildren g rs₁ src dst d k n rs at to z j → (end : ℕ) → Skips rs at end → j < n → u ≡ binders_over k j → (to' z' : ℕ) → to' ≡ r.end → z' ≡ z + r.replaced
     → ReplacingChildren g rs₁ src dst d k n rs' end to' z' (j + 1)
 child_replaced g rs rs' at to d u r w rs₁ src dst k n z j p end sk l b to' z' x y = rw (x, y) (record {
   count = p.count;
@@ -272,30 +281,9 @@ child_replaced g rs rs' at to d u r w rs₁ src dst k n z j p end sk l b to' z' 
 })
 
 -- What falls is the number of records from the tree on.
-pub child_falls : (g : Arguments) (s₁ : List ℕ) (src dst d k n : ℕ) (s : List ℕ) (at to z j : ℕ) → ReplacingChildren g (records_in s₁) src dst d k n (records_in s) at to z j → j < n
+pub child_falls : (g : Arguments) (s₁ : List ℕ) (src dst d : ℕ) (k : Kind) (n : ℕ) (s : List ℕ) (at to z j : ℕ) → ReplacingChildren g (records_in s₁) src dst d k n (records_in s) at to z j → j < n
     → (s₀ : List ℕ) → length s₁ ≡ length s₀ → (q : ℕ) → length (records_in s₀) - src ≡ q → length (records_in s) - at < q
 child_falls g s₁ src dst d k n s at to z j p l s₀ y q o =
     copy_falls (Replacing g) g.count _ (replacing_sound g) s₁ src dst d k s at to j n p.copying p.count l s₀ y q o
 
-pub ruleset replacing_laws = (
-  copy_in,
-  copy_to,
-  copy_from_fits,
-  copy_to_fits,
-  lowered_stays,
-  lowered_falls,
-  use_can,
-  use_replaces,
-  block_fits,
-  block_replaces,
-  children_start,
-  child_tree,
-  child_counts,
-  child_deep,
-  child_can,
-  child_falls,
-  replaced_fits,
-  child_replaced,
-  children_copied,
-  root_replaces,
-)
+pub ruleset replacing_laws = (copy_in, copy_from_fits, block_fits, block_replaces, child_tree, child_can, child_falls, replaced_fits, child_replaced, children_copied)

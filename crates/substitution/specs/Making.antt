@@ -1,6 +1,6 @@
 -- The terms that arguments stand for, written out: the tree at an argument's place, copied, and the records that are made over it.
 use Rattle.std.specs.Prelude.{ℕ, ◌+◌, ◌*◌, ◌<◌, ◌≤◌, List, ◌≡◌, length, set}
-use Rattle.rules.specs.Kinds.{Unary, unary₁, kind_number}
+use Rattle.rules.specs.Kinds.{Unary, Kind, unary₁}
 use Rattle.rules.specs.Terms.{Term, unary, size}
 use Rattle.rules.specs.FreeBounds.{free_bound}
 use Rattle.rules.specs.Indices.{raised}
@@ -16,15 +16,15 @@ pub record UnderRoot (rs : List Record) (dst : ℕ) (u : Term) : Type 0 where
   pub few : size u < 65535
   pub low : 2 * free_bound u + 1 < 65536
 
-pub record CanPutOver (rs : List Record) (dst kind : ℕ) : Type 0 where
+pub record CanPutOver (rs : List Record) (dst : ℕ) (kind : Kind) : Type 0 where
   pub sort : Unary
-  pub is : kind ≡ kind_number (unary₁ sort)
+  pub is : kind ≡ unary₁ sort
   pub tree : Term
   pub under : UnderRoot rs dst tree
 
 -- A root of this kind, of type ty and with the field a, is written over the tree after dst, with its measures, and r is the place after that tree.
-pub record PutsOver (rs rs' : List Record) (dst kind ty a r : ℕ) : Type 0 where
-  pub does : (k : Unary) (u : Term) → kind ≡ kind_number (unary₁ k) → UnderRoot rs dst u → (rs' ≡ set rs dst (head (unary k (function_fields ty a) u))) × (r ≡ dst + 1 + size u)
+pub record PutsOver (rs rs' : List Record) (dst : ℕ) (kind : Kind) (ty a r : ℕ) : Type 0 where
+  pub does : (k : Unary) (u : Term) → kind ≡ unary₁ k → UnderRoot rs dst u → (rs' ≡ set rs dst (head (unary k (function_fields ty a) u))) × (r ≡ dst + 1 + size u)
 
 -- The term t that the argument stands for can be written to dst, its free indices raised by n.
 pub record MakingAt (rs : List Record) (lo hi : ℕ) (g : Argument) (dst n : ℕ) (t : Term) : Type 0 where

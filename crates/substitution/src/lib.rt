@@ -7,4 +7,4 @@ mod replacing; // copies with variables replaced
 
 pub use arguments::{Argument, Arguments};
 pub use making::copy_argument;
-pub use replacing::{Copied, copy_replaced};
+pub use replacing::{Copied, chosen, copy_replaced};

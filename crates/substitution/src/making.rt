@@ -1,24 +1,22 @@
 // The terms that arguments stand for, written out.
+ghost use Rattle.kinds.specs.Named.{kind_meant};
 ghost use Rattle.records.specs.View.{records_in};
 ghost use Rattle.substitution.specs.declared.arguments.Argument.TheVariants.{Tree, Quote, Opened};
 ghost use Rattle.substitution.specs.Making.{CanPutOver, PutsOver, CanCopyArgument, CopiesArgument};
 
 use crate::arguments::Argument;
 use copies::{copy_block, copy_raised, copy_wrapped, tree_size};
+use kinds::Kind;
 use records::Record;
 use terms::mark_root;
 
-const FUNCTION: u16 = 3;
-
-const QUOTE: u16 = 7;
-
 // Writes a root to `dst` over the tree that stands after it, with its measures. Returns the place after that tree.
-fn put_over(w: &mut [u8], dst: usize, kind: u16, ty: u16, a: u16) -> usize
-    requires { CanPutOver (records_in w.old) dst kind }
-    ensures { PutsOver (records_in w.old) (records_in w.new) dst kind ty a result }
+fn put_over(w: &mut [u8], dst: usize, kind: Kind, ty: u16, a: u16) -> usize
+    requires { CanPutOver (records_in w.old) dst (kind_meant kind) }
+    ensures { PutsOver (records_in w.old) (records_in w.new) dst (kind_meant kind) ty a result }
 {
     let made = Record {
-        kind,
+        kind: kind.number(),
         ty,
         a,
         b: 0,
@@ -49,7 +47,7 @@ fn copy_quoted(w: &mut [u8], at: usize, ty: u16, dst: usize, n: u16) -> usize
     ensures { CopiesArgument (records_in w.old) (records_in w.new) (Quote at ty) dst n result }
 {
     copy_tree(w, at, dst + 1, n);
-    put_over(w, dst, QUOTE, ty, 0)
+    put_over(w, dst, Kind::Quote, ty, 0)
 }
 
 // Copies it, the uses of its outermost variable wrapped, under a quote of type `b` and a function of type `ty` with argument type `a`.
@@ -59,8 +57,8 @@ fn copy_opened(w: &mut [u8], at: usize, ty: u16, a: u16, b: u16, dst: usize, n: 
 {
     let inner = dst + 1;
     copy_wrapped(w, at, inner + 1, n, 0, a);
-    put_over(w, inner, QUOTE, b, 0);
-    put_over(w, dst, FUNCTION, ty, a)
+    put_over(w, inner, Kind::Quote, b, 0);
+    put_over(w, dst, Kind::Function, ty, a)
 }
 
 // Writes the term that an argument stands for to `dst`, its free indices raised by n. Returns the place after it.

@@ -1,19 +1,18 @@
 // A copy of a tree with variables replaced by what arguments stand for, with the measures of the copy.
-ghost use Rattle.std.specs.Prelude.{◌≡◌, ◌<◌, length};
+ghost use Rattle.std.specs.Prelude.{◌≡◌};
 ghost use Rattle.rules.specs.Lists.{pick};
-ghost use Rattle.rules.specs.Kinds.{kind_of};
 ghost use Rattle.rules.specs.Indices.{lowered_index};
+ghost use Rattle.kinds.specs.Named.{kind_meant};
 ghost use Rattle.records.specs.View.{records_in};
-ghost use Rattle.records.specs.Meant.{record_meant};
 ghost use Rattle.copies.specs.Roots.{moved_field};
-ghost use Rattle.copies.specs.Copying.{CanCopy, MovesRoot};
+ghost use Rattle.copies.specs.Copying.{CanCopy};
 ghost use Rattle.substitution.specs.Replacing.{Replacing, Replaces};
 
-use crate::arguments::{Argument, Arguments};
+use crate::arguments::Arguments;
 use crate::making::copy_argument;
 use copies::{copy_block, gives_way, put_indexed};
-use records::Record;
-use terms::{binders_over, mark_root, skip, without};
+use kinds::{Kind, Use};
+use terms::{binders_over, mark_root, skip};
 
 // The place after a copy, and how many variables gave way in it.
 #[derive(Clone, Copy)]
@@ -26,34 +25,26 @@ pub struct Copied {
 fn lowered_index(i: u16, m: u16, d: u16) -> u16
     ensures { result ≡ lowered_index m d i }
 {
-    if i < d { i } else { without(i, m) }
+    if i < d { i } else { i.saturating_sub(m) }
 }
 
 // The field a of a record of this kind, lowered where it is an index.
-fn lowered_field(kind: u16, a: u16, m: u16, d: u16) -> u16
-    ensures { result ≡ moved_field (lowered_index m d) (kind_of kind) a }
+#[tactic(auto, unfolding(copies::specs::Roots::moved_field))]
+fn lowered_field(kind: Kind, a: u16, m: u16, d: u16) -> u16
+    ensures { result ≡ moved_field (lowered_index m d) (kind_meant kind) a }
 {
-    if kinds::use_of_a(kind) == 1 {
+    if kind.use_of_a() == Use::Index {
         lowered_index(a, m, d)
     } else {
         a
     }
 }
 
-// Writes a root that stays, its index lowered.
-fn lower_root(w: &mut [u8], dst: usize, r: Record, m: u16, d: u16)
-    requires { dst < length (records_in w.old) }
-    ensures { MovesRoot (lowered_index m d) (records_in w.old) (records_in w.new) dst (record_meant r) }
+// What is for the variable of the innermost removed binder, or for another.
+pub fn chosen<T: Copy>(first: T, second: T, inner: bool) -> T
+    ensures { result ≡ pick inner first second }
 {
-    let a = lowered_field(r.kind, r.a, m, d);
-    put_indexed(w, dst, r, a);
-}
-
-// The argument for the variable of the innermost removed binder, or for the other.
-fn chosen(g: Arguments, inner: bool) -> Argument
-    ensures { result ≡ pick inner g.first g.second }
-{
-    if inner { g.first } else { g.second }
+    if inner { first } else { second }
 }
 
 // Copies the tree at `src` to `dst`, the variables of the binders next to d of its own replaced by what the arguments stand for, and the indices
@@ -68,24 +59,24 @@ pub fn copy_replaced(w: &mut [u8], src: usize, dst: usize, d: u16, g: Arguments)
         let end = copy_block(w, src, dst, r.first as usize);
         return Copied { end, replaced: 0 };
     }
-    let kind = r.kind;
-    let children = kinds::children(kind);
+    let kind = Kind::known(r.kind);
+    let children = kind.children();
     if gives_way(children, r.a, d, g.count) {
-        let end = copy_argument(w, chosen(g, r.a == d), dst, d);
+        let chosen = chosen(g.first, g.second, r.a == d);
+        let end = copy_argument(w, chosen, dst, d);
         return Copied { end, replaced: 1 };
     }
-    lower_root(w, dst, r, g.count, d);
+    let a = lowered_field(kind, r.a, g.count, d);
+    put_indexed(w, dst, r, a);
     let mut at = src + 1;
     let mut to = dst + 1;
     let mut replaced = 0;
-    let mut j: u16 = 0;
-    while j < children {
+    for j in 0..children {
         let after = skip(w, at);
         let child = copy_replaced(w, at, to, d + binders_over(kind, j), g);
         to = child.end;
         replaced += child.replaced;
         at = after;
-        j += 1;
     }
     let end = mark_root(w, dst);
     Copied { end, replaced }

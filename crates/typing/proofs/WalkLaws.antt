@@ -1,7 +1,7 @@
 -- The laws of the walk.
 use Prim.Native.Nat.{ℕ, ◌+◌, ◌-◌, ◌*◌, ◌/◌, ◌%◌, ◌≤◌, ◌<◌}
 use native.Mathlib.Omega.{arith}
-use mathlib.Core.Path.{◌≡◌, refl, ap, sym, ◌∙◌, subst}
+use mathlib.Core.Path.{◌≡◌, refl, ap, sym, ◌∙◌}
 use mathlib.Core.List.{List, []}
 use mathlib.Core.Option.{Option, none, some}
 use lib.ListN.{length}
@@ -26,8 +26,8 @@ use Rattle.refusals.specs.declared.reasons.Refusal.{Refusal as Reported}
 use Rattle.refusals.specs.Reports.{Reports}
 use Rattle.refusals.proofs.Reporting.{reports_first, reports_next}
 use Rattle.judging.specs.Stack.{stack}
-use Rattle.judging.specs.Tests.{refusal_at, OfJudging, Names}
-use Rattle.judging.proofs.Naming.{nothing_named, something_named}
+use Rattle.judging.specs.Tests.{refusal_at, Names}
+use Rattle.judging.proofs.Naming.{OfJudging, nothing_named, something_named}
 use Rattle.typing.specs.declared.Child.{Child}
 use Rattle.typing.specs.Reading.{second_of, third_of}
 use Rattle.typing.specs.Pushing.{PushesFirst, PushesSecond}
@@ -65,10 +65,14 @@ packs number place h k =
 -- What its parts say: by `judged` of the number, with the place put beside the reason.
 pub unpacks : (q : ℕ) (j : Result Unit Reason) (r : Result Unit Reported) (Placed : Reason → Reported → Type 0) → Names (q / 65536) j
     → ((e : Reason) (x : Reported) → Placed e x → x ≡ record { reason = e; place = q % 65536 }) → MatchResult j (λ x. r ≡ Ok x) (λ e. IsErrAnd r (Placed e)) → Unpacks q r
-unfolding refusal_in
-unpacks q (Ok x) r Placed h k m = record { reports = λ o. rw m (nothing_named (q / 65536) (q % 65536) _ refl h) }
+unpacks q (Ok x) r Placed h k m = rw m h
 unpacks q (Err e) (Ok x) Placed h k m = absurd m
-unpacks q (Err e) (Err x) Placed h k m = record { reports = λ o. rw (k e x m) (something_named (q / 65536) (q % 65536) _ e o refl h) }
+unpacks q (Err e) (Err x) Placed h k m = rw (k e x m) (h, refl)
+
+unpacked : (q : ℕ) (r : Result Unit Reported) (o : Option Refusal) → Unpacks q r → OfJudging o → refusal_in q ≡ o → Reports r o
+unfolding refusal_in
+unpacked q (Ok x) o u j e = nothing_named (q / 65536) (q % 65536) o e u
+unpacked q (Err r) o (h, p) j e = rw p (something_named (q / 65536) (q % 65536) o r.reason j e h)
 
 -- How far the walk of record n has come. Its checks so far have passed, so that it says what the `rest` of them says, which begins with the tree of
 -- `child`; q is its answer where there is no such child. The stack, which was bs, is bs' with what is below the depth kept.
@@ -269,4 +273,4 @@ pub root_told : (types : Table) (rs : List Record) (bs bs' : List ℕ) (count p 
 unfolding stack
 root_told types rs bs bs' count p v h walk u =
     let told : refusal_in p ≡ walked count types rs [] 0 1 = rw (← h.all) walk.tells in
-    u.reports (subst OfJudging (sym told) (walked_of_judging count types rs [] 0 1)) ∙ told
+    unpacked p v _ u (walked_of_judging count types rs [] 0 1) told

@@ -13,8 +13,7 @@ use Rattle.rules.specs.Links.{first_of, next_of}
 use Rattle.rules.specs.Check.{walked}
 use Rattle.rules.specs.Refusals.{Refusal, ◌then◌}
 use Rattle.rules.proofs.Generations.{all_generations}
-use Rattle.judging.specs.Tests.{OfJudging}
-use Rattle.judging.proofs.Naming.{then_of_judging, judged_of_judging}
+use Rattle.judging.proofs.Naming.{OfJudging, then_of_judging, judged_of_judging}
 use Rattle.typing.specs.Reading.{second_of, third_of}
 use Rattle.typing.specs.Entering.{kind_no, fields_no}
 use Rattle.typing.specs.Walking.{judged_at}

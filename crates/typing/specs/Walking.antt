@@ -1,5 +1,5 @@
 -- What the walk asks and answers.
-use Rattle.std.specs.Prelude.{ℕ, ◌+◌, ◌*◌, ◌/◌, ◌%◌, ◌≤◌, ◌<◌, ◌≡◌, List, length, Result}
+use Rattle.std.specs.Prelude.{ℕ, ◌+◌, ◌*◌, ◌/◌, ◌%◌, ◌≤◌, ◌<◌, ◌≡◌, List, length, Result, Ok, Err}
 use Rattle.std.proofs.Math.Option.{Option, none, some}
 use Rattle.rules.specs.Kinds.{kind_of}
 use Rattle.rules.specs.Terms.{size}
@@ -15,9 +15,8 @@ use Rattle.records.specs.Places.{IsRecord, InChain}
 use Rattle.kinds.specs.declared.names.Kind.{Kind}
 use Rattle.kinds.specs.Named.{kind_meant}
 use Rattle.refusals.specs.declared.reasons.Refusal.{Refusal}
-use Rattle.refusals.specs.Reports.{Reports}
 use Rattle.judging.specs.Stack.{stack}
-use Rattle.judging.specs.Tests.{refusal_at, OfJudging}
+use Rattle.judging.specs.Tests.{refusal_at, Names}
 use Rattle.typing.specs.Reading.{CanRead, second_of, third_of}
 use Rattle.typing.specs.Entering.{kind_no, fields_no}
 
@@ -47,9 +46,10 @@ pub record Packs (number place q : ℕ) : Type 0 where
   pub holds : refusal_in q ≡ some (record { number = number; place = place })
   pub refused : 65536 ≤ q
 
--- r is what q says, where its number is of 10 to 12.
-pub record Unpacks (q : ℕ) (r : Result Unit Refusal) : Type 0 where
-  pub reports : OfJudging (refusal_in q) → Reports r (refusal_in q)
+-- r is what q says: its reason is the one that the number of the refusal names.
+abbrev pub Unpacks : ℕ → Result Unit Refusal → Type 0
+Unpacks q (Ok x) = Names (q / 65536) (Ok x)
+Unpacks q (Err r) = Names (q / 65536) (Err r.reason) × (r.place ≡ q % 65536)
 
 -- The tree of record n can be walked: 9 passes the records, those left are enough for the tree and no more than a program has, and the stack
 -- has room for two binders of each.
