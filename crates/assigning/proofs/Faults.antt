@@ -1,9 +1,9 @@
--- The number of what is wanted, and the fault of the record that has it: `assigning` for search.
+-- The number of what is wanted, and the fault of the record that has it.
 use Prim.Native.Nat.{ℕ, suc, ◌*◌, ◌≤◌, ◌<◌}
 use native.Mathlib.Omega.{arith}
 use mathlib.Core.List.{List}
-use mathlib.Core.Option.{none, some}
-use mathlib.Core.Path.{◌≡◌, refl, ap, sym, subst, ◌∙◌}
+use mathlib.Core.Option.{Option}
+use mathlib.Core.Path.{◌≡◌, refl, ap, sym, ◌∙◌}
 use lib.ListN.{length, take}
 use lib.Seq.{length-take-le}
 use borrow.Author.Tests.{lt-ltb, le-ltb}
@@ -11,23 +11,28 @@ use Rattle.rules.specs.Kinds.{kind_of}
 use Rattle.rules.specs.Types.{Table}
 use Rattle.rules.specs.Typing.{Env}
 use Rattle.rules.specs.Format.{most_types}
-use Rattle.rules.specs.Refusals.{table_full, unless, ◌then◌}
-use Rattle.inference.specs.Inference.{retyped, fault_in}
+use Rattle.rules.specs.Refusals.{unless}
+use Rattle.rules.specs.Refusals.{Refusal as MeantRefusal}
+use Rattle.rules.specs.Check.{judged}
+use Rattle.kinds.specs.declared.names.Kind.{Kind}
+use Rattle.kinds.specs.Named.{kind_meant}
 use Rattle.records.specs.declared.Entry.{Entry}
 use Rattle.records.specs.declared.Record.{Record}
 use Rattle.records.specs.Meant.{entry_meant}
 use Rattle.records.specs.View.{entries_in}
 use Rattle.records.proofs.Entries.{entries_length, entries_front}
-use Rattle.refusals.specs.declared.Verdict.{Verdict}
-use Rattle.refusals.specs.Tells.{Tells, refusal_by, verdict_at}
-use Rattle.refusals.proofs.Laws.{tells_placed, some_number, tells_next}
+use Rattle.std.specs.Prelude.{Result, Ok, Err}
+use Rattle.refusals.specs.declared.reasons.Reason.{Reason}
+use Rattle.refusals.specs.declared.reasons.Reason.TheVariants.{TableFull}
+use Rattle.refusals.proofs.Reporting.{reports_first, reports_next}
 use Rattle.judging.specs.Stack.{stack}
-use Rattle.judging.specs.Tests.{fields_meant, Judges}
+use Rattle.judging.specs.Tests.{fields_meant, refusal_at, Judges, Names}
+use Rattle.judging.proofs.Naming.{OfJudging, judged_of_judging, nothing_named, something_named}
 use Rattle.tables.specs.declared.Held.{Held}
 use Rattle.tables.specs.Having.{CanGrow, CanHave, Has}
 use Rattle.assigning.specs.declared.Candidate.{Candidate}
 use Rattle.assigning.specs.declared.Candidate.TheVariants.{Known, Made}
-use Rattle.assigning.specs.Assigning.{wanted_meant, wanted_for, Wants, MayFollow, CanHold, HasWanted, HasCandidate, fault_for, Assigns}
+use Rattle.assigning.specs.Assigning.{wanted_meant, wanted_for, Wants, MayFollow, CanHold, HasWanted, HasCandidate, refused_at, JudgesOwn, JudgesWhole, fault_for, Assigns}
 
 -- An entry that is made may be had.
 pub can_have : (es : Table) (types : ℕ) (w : Candidate) (e : Entry) → CanHold es types w → w ≡ Made e → CanHave es types (entry_meant e)
@@ -43,25 +48,32 @@ pub has_made : (es es' : Table) (types : ℕ) (e : Entry) (r : Held) → Has es 
 unfolding wanted_meant
 has_made es es' types e r h = record { does = record { table = h.table; number = h.number; fits = h.fits; room = h.room } }
 
--- Rules 10 to 12 by the kind that the record is known to have.
-pub judges_known : (types : Table) (Γ : Env) (l k : ℕ) (r : Record) (x y z q : ℕ) → r.kind ≡ k → Judges types Γ l k r x y z q → Judges types Γ l r.kind r x y z q
-judges_known types Γ l k r x y z q e h = subst (λ i. Judges types Γ l i r x y z q) (sym e) h
+-- The record's own fault, from the number that is judged.
+named_fault : (q n : ℕ) (a : Result Unit Reason) (o : Option MeantRefusal) → OfJudging o → refusal_at q n ≡ o → Names q a → refused_at n a ≡ o
+named_fault q n (Ok x) o j t e = nothing_named q n o t e
+named_fault q n (Err reason) o j t e = something_named q n o reason j t e
 
--- The record's own fault, whose number is q, then 14.
-module _ (s : List ℕ) (Γ : Env) (l n : ℕ) (r : Record) (x y z q : ℕ) (own : Judges (entries_in s) Γ l r.kind r x y z q) (v : Verdict) where
-  pub own_fault : (q ≡ 0 → ⊥) → Tells v (some (refusal_by q n)) → Tells v (fault_in (entries_in s) Γ l n (kind_of r.kind) (fields_meant r) x y z)
-  unfolding ◌then◌
-  own_fault h t = rw (some_number _ _ (tells_placed q n _ h (own.tells n)) h) t
+pub judges_own : (types : Table) (Γ : Env) (l : ℕ) (kind : Kind) (r : Record) (x y z q : ℕ) (a : Result Unit Reason) → kind_meant kind ≡ kind_of r.kind
+    → Judges types Γ l kind r x y z q → Names q a → JudgesOwn types Γ l r x y z a
+judges_own types Γ l kind r x y z q a e j names = record {
+  is = λ n.
+      named_fault q n a _ (judged_of_judging types Γ l n (kind_of r.kind) (fields_meant r) x y z) (j.tells n ∙ ap (λ k. judged types Γ l n k (fields_meant r) x y z) e) names;
+}
+
+-- The record's own fault, then 14.
+module _ (s : List ℕ) (Γ : Env) (l : ℕ) (r : Record) (x y z : ℕ) where
+  pub own_stays : (reason : Reason) → JudgesOwn (entries_in s) Γ l r x y z (Err reason) → JudgesWhole (entries_in s) Γ l r x y z (Err reason)
+  own_stays reason own = record { is = λ n. reports_first _ _ _ (own.is n) }
 
   -- The bytes are `count` entries.
-  module _ (count : ℕ) (long : 6 * count ≡ length s) where
-    pub full_fault : q ≡ 0 → most_types < count → Tells v (some (refusal_by table_full n)) → Tells v (fault_in (entries_in s) Γ l n (kind_of r.kind) (fields_meant r) x y z)
+  module _ (count : ℕ) (long : 6 * count ≡ length s) (own : JudgesOwn (entries_in s) Γ l r x y z (Ok tt)) where
+    pub full_fault : most_types < count → JudgesWhole (entries_in s) Γ l r x y z (Err TableFull)
     unfolding unless
-    full_fault e h t = tells_next (verdict_at q n) v _ _ (own.tells n) e (rw (le-ltb (length (entries_in s)) (suc most_types) (omega (arith, entries_length s))) t)
+    full_fault h = record { is = λ n. reports_next _ _ _ (own.is n) (rw (le-ltb (length (entries_in s)) (suc most_types) (omega (arith, entries_length s))) refl) }
 
-    pub no_fault : q ≡ 0 → count ≤ most_types → Tells v none → Tells v (fault_in (entries_in s) Γ l n (kind_of r.kind) (fields_meant r) x y z)
+    pub no_fault : count ≤ most_types → JudgesWhole (entries_in s) Γ l r x y z (Ok tt)
     unfolding unless
-    no_fault e h t = tells_next (verdict_at q n) v _ _ (own.tells n) e (rw (lt-ltb (length (entries_in s)) (suc most_types) (omega (arith, entries_length s))) t)
+    no_fault h = record { is = λ n. reports_next _ _ _ (own.is n) (rw (lt-ltb (length (entries_in s)) (suc most_types) (omega (arith, entries_length s))) refl) }
 
 -- What is wanted, given to the record; the parts of the buffer that are lent are the first entries.
 module _ (s : List ℕ) (types : ℕ) (can : CanGrow (entries_in s) types) where
@@ -87,19 +99,23 @@ module _ (s s' : List ℕ) (types : ℕ) (w : Candidate) (r : Held) (can : CanGr
   held_long = sym (length-take-le (6 * r.types) s' held_fits)
 
   -- The fault with the type that is held is the one that the definition has.
-  module _ (bs : List ℕ) (d l n : ℕ) (o : Record) (x y z : ℕ) (v : Verdict) (wants : Wants (entries_in (take (6 * types) s)) (stack bs d) o x y w) where
+  module _ (bs : List ℕ) (d l n : ℕ) (o : Record) (x y z : ℕ) (wants : Wants (entries_in (take (6 * types) s)) (stack bs d) o x y w) where
     abbrev A : Table
     A = take types (entries_in s)
 
     held_so : HasWanted (entries_in s) (entries_in s') types (wanted_for A (stack bs d) o x y) r.number r.types
     held_so = rw (wanted_is s types can bs d o x y w wants) at has.does
 
-    pub assigns : Tells v (fault_in (entries_in (take (6 * r.types) s')) (stack bs d) l n (kind_of o.kind) (retyped r.number (fields_meant o)) x y z)
-        → Assigns (entries_in s) (entries_in s') types (stack bs d) l n o x y z (record { number = v.number; place = v.place; ty = r.number; types = r.types })
-    unfolding fault_for
-    assigns t = record {
-      tells = rw (← held_so.table, ← held_so.number, ← entries_front s' r.types held_fits) t;
-      held = held_so;
-    }
+    abbrev given : Record
+    given = record { kind = o.kind; ty = r.number; a = o.a; b = o.b; first = o.first; next = o.next; value = o.value }
 
-pub ruleset assigning = (has_known, has_made, own_fault, full_fault, no_fault, front_fits, front_long, can_hold, held_fits, held_long, assigns)
+    fault_is : (q : Result Unit Reason) → JudgesWhole (entries_in (take (6 * r.types) s')) (stack bs d) l given x y z q → refused_at n q ≡ fault_for A (stack bs d) l n o x y z
+    unfolding fault_for
+    fault_is q j = rw (← held_so.table, ← held_so.number, ← entries_front s' r.types held_fits) (j.is n)
+
+    pub assigns : JudgesWhole (entries_in (take (6 * r.types) s')) (stack bs d) l given x y z (Ok tt) → Assigns (entries_in s) (entries_in s') types (stack bs d) l n o x y z (Ok r)
+    assigns j = record { reports = fault_is (Ok tt) j; held = held_so }
+
+    pub assigns_none : (reason : Reason) → JudgesWhole (entries_in (take (6 * r.types) s')) (stack bs d) l given x y z (Err reason)
+        → Assigns (entries_in s) (entries_in s') types (stack bs d) l n o x y z (Err (record { reason = reason; place = n }))
+    assigns_none reason j = record { reports = fault_is (Err reason) j; held = record { number = r.number; count = r.types; held = held_so } }

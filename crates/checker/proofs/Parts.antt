@@ -2,40 +2,39 @@
 use Prim.Native.Nat.{ℕ, ◌+◌, ◌*◌, ◌-◌, ◌≤◌, ◌<◌}
 use native.Mathlib.Omega.{arith}
 use mathlib.Core.List.{List}
+use mathlib.Core.Option.{Option, none, some}
 use mathlib.Core.Path.{◌≡◌, sym, ap, ◌∙◌}
 use lib.ListN.{length, take, drop}
 use Rattle.rules.specs.Conditions.{Holds}
 use Rattle.rules.specs.Editions.{Edition}
 use Rattle.rules.specs.FieldUses.{TypeFields, given, omitted}
 use Rattle.rules.specs.Format.{type_count, record_count, table_of, records_of}
-use Rattle.rules.specs.Refusals.{bad_counts, bad_length, ◌then◌}
+use Rattle.rules.specs.Refusals.{Refusal, bad_counts, bad_length, ◌then◌}
 use Rattle.rules.specs.Check.{counts_rule, form_refusal, size_refusal, layout_refusal, refusal}
 use Rattle.rules.proofs.Tests.{both_pass, holds_unless}
 use Rattle.rules.proofs.Meaning.{types_counted, records_counted}
 use Rattle.records.specs.View.{entries_in, records_in}
 use Rattle.records.proofs.Program.{program_table_slice, program_records_slice}
-use Rattle.refusals.specs.declared.Verdict.{Verdict}
-use Rattle.refusals.specs.Tells.{Tells}
-use Rattle.refusals.proofs.Laws.{no_number, tells_first}
+use Rattle.refusals.proofs.Reporting.{reports_first}
 use Rattle.checker.specs.Limits.{InLimits}
 use Rattle.checker.specs.Refused.{SizePasses}
 
 -- Where they refuse, that is the refusal of the program, with its types given or omitted.
-module _ (p : List ℕ) (s : Verdict) (told : Tells s (size_refusal p)) where
-  pub size_passes : s.number ≡ 0 → SizePasses p
-  size_passes z = record { none_refused = no_number s _ told z }
+module _ (p : List ℕ) where
+  pub size_passes : none ≡ size_refusal p → SizePasses p
+  size_passes t = record { none_refused = sym t }
 
-  module _ (edition : Edition) (n : s.number ≡ 0 → ⊥) where
-    size_refused : (fields : TypeFields) → Tells s (layout_refusal fields edition p)
+  module _ (edition : Edition) (m : Refusal) (told : some m ≡ size_refusal p) where
+    size_refused : (fields : TypeFields) → some m ≡ layout_refusal fields edition p
     unfolding layout_refusal
-    size_refused fields = tells_first s _ _ told n
+    size_refused fields = reports_first m _ _ told
 
-    pub size_refused_omitted : Tells s (layout_refusal omitted edition p)
+    pub size_refused_omitted : some m ≡ layout_refusal omitted edition p
     size_refused_omitted = size_refused omitted
 
-    pub size_refused_given : Tells s (refusal edition p)
+    pub size_refused_given : some m ≡ refusal edition p
     unfolding refusal
-    size_refused_given = tells_first s _ _ (size_refused given) n
+    size_refused_given = reports_first m _ _ (size_refused given)
 
 module _ (p : List ℕ) (passes : SizePasses p) where
   counts : Holds (counts_rule (type_count p) (record_count p))
@@ -68,10 +67,10 @@ module _ (p : List ℕ) (passes : SizePasses p) where
       most = omega (arith, eR, counts.1.0);
     }
 
-    pub form_told : (fields : TypeFields) (edition : Edition) (w : Verdict)
-        → Tells w (form_refusal fields edition (entries_in (take (4 + 6 * T - 4) (drop 4 p))) (records_in (take (length p - (4 + 6 * T)) (drop (4 + 6 * T) p))))
-        → Tells w (layout_refusal fields edition p)
+    pub form_told : (fields : TypeFields) (edition : Edition) (q : Option Refusal)
+        → q ≡ form_refusal fields edition (entries_in (take (4 + 6 * T - 4) (drop 4 p))) (records_in (take (length p - (4 + 6 * T)) (drop (4 + 6 * T) p)))
+        → q ≡ layout_refusal fields edition p
     unfolding layout_refusal ◌then◌
-    form_told fields edition w t = rw (passes.none_refused, table_is, records_are) t
+    form_told fields edition q t = rw (passes.none_refused, table_is, records_are) t
 
-pub ruleset parting = (size_passes, size_refused_omitted, size_refused_given, sized_types, sized_count, sized_end, parts_sized, form_told)
+pub ruleset parting = (sized_types, sized_count, sized_end, parts_sized, form_told)

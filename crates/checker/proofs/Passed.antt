@@ -1,14 +1,15 @@
--- What is known of a program whose layout is not refused; and the walk that comes after: `walking_on` for search.
+-- What is known of a program whose layout is not refused; and the walk that comes after.
 use Prim.Native.Nat.{ℕ, ◌+◌, ◌*◌, ◌-◌}
 use native.Mathlib.Omega.{arith}
 use mathlib.Core.Bool.{Bool, true, false}
 use mathlib.Core.List.{List, []}
+use mathlib.Core.Option.{Option, none, some}
 use mathlib.Core.Path.{◌≡◌, sym, ◌∙◌}
 use lib.ListN.{length, take, drop}
 use Rattle.rules.specs.Editions.{Edition}
 use Rattle.rules.specs.FieldUses.{TypeFields, given, omitted}
 use Rattle.rules.specs.Format.{type_count, record_count, records_of}
-use Rattle.rules.specs.Refusals.{bad_link, bad_children}
+use Rattle.rules.specs.Refusals.{Refusal, bad_link, bad_children}
 use Rattle.rules.specs.Check.{links_rule, children_rule, walked, form_refusal, layout_refusal, refusal}
 use Rattle.rules.specs.Meets.{MeetsLayout}
 use Rattle.rules.proofs.Tests.{lowest_holds}
@@ -16,16 +17,14 @@ use Rattle.rules.proofs.Meaning.{records_counted, layout_exactly}
 use Rattle.kinds.specs.Meant.{type_fields_meant}
 use Rattle.records.specs.View.{entries_in, records_in}
 use Rattle.records.proofs.Program.{layout_table_slice, layout_records_slice}
-use Rattle.refusals.specs.declared.Verdict.{Verdict}
-use Rattle.refusals.specs.Tells.{Tells}
-use Rattle.refusals.proofs.Laws.{no_number, tells_first, tells_next}
+use Rattle.refusals.proofs.Reporting.{reports_first, reports_next}
 use Rattle.typing.specs.Walking.{MakeTree}
 use Rattle.checker.specs.Refused.{SizePasses, refusal_with}
 use Rattle.checker.proofs.Parts.{form_told}
 
-module _ (fields : TypeFields) (edition : Edition) (p : List ℕ) (l : Verdict) (tl : Tells l (layout_refusal fields edition p)) (z : l.number ≡ 0) where
+module _ (fields : TypeFields) (edition : Edition) (p : List ℕ) (tl : none ≡ layout_refusal fields edition p) where
   layout_passed : MeetsLayout fields edition p
-  layout_passed = (layout_exactly fields edition p).0 (no_number l _ tl z)
+  layout_passed = (layout_exactly fields edition p).0 (sym tl)
 
   -- Its records make one tree.
   passed_tree : (T R : ℕ) → T ≡ type_count p → R ≡ record_count p → MakeTree (records_in (take (length p - (4 + 6 * T)) (drop (4 + 6 * T) p))) R
@@ -42,40 +41,41 @@ module _ (fields : TypeFields) (edition : Edition) (p : List ℕ) (l : Verdict) 
 
 -- So it is where the refusals of its two parts say nothing.
 pub form_tree : (p : List ℕ) → SizePasses p → (T R : ℕ) → T ≡ type_count p → R ≡ record_count p → (fields : TypeFields) (edition : Edition)
-    (f : Verdict) → Tells f (form_refusal fields edition (entries_in (take (4 + 6 * T - 4) (drop 4 p))) (records_in (take (length p - (4 + 6 * T)) (drop (4 + 6 * T) p))))
-    → f.number ≡ 0 → MakeTree (records_in (take (length p - (4 + 6 * T)) (drop (4 + 6 * T) p))) R
-form_tree p passes T R eT eR fields edition f tf zf = passed_tree fields edition p f (form_told p passes T eT fields edition f tf) zf T R eT eR
+    → none ≡ form_refusal fields edition (entries_in (take (4 + 6 * T - 4) (drop 4 p))) (records_in (take (length p - (4 + 6 * T)) (drop (4 + 6 * T) p)))
+    → MakeTree (records_in (take (length p - (4 + 6 * T)) (drop (4 + 6 * T) p))) R
+form_tree p passes T R eT eR fields edition tf = passed_tree fields edition p (form_told p passes T eT fields edition none tf) T R eT eR
 
 -- 3 to 9 and 13, then, where types are given, the walk.
-module _ (b : Bool) (edition : Edition) (p : List ℕ) (l : Verdict) (tl : Tells l (layout_refusal (type_fields_meant b) edition p)) where
-  pub layout_refused : (l.number ≡ 0 → ⊥) → Tells l (refusal_with (type_fields_meant b) edition p)
+module _ (b : Bool) (edition : Edition) (p : List ℕ) where
+  pub layout_refused : (m : Refusal) → some m ≡ layout_refusal (type_fields_meant b) edition p → some m ≡ refusal_with (type_fields_meant b) edition p
   unfolding refusal_with refusal
-  layout_refused n = go (type_fields_meant b) tl
+  layout_refused m tl = go (type_fields_meant b) tl
     where
-      go : (fields : TypeFields) → Tells l (layout_refusal fields edition p) → Tells l (refusal_with fields edition p)
-      go given t = tells_first l _ _ t n
+      go : (fields : TypeFields) → some m ≡ layout_refusal fields edition p → some m ≡ refusal_with fields edition p
+      go given t = reports_first m _ _ t
       go omitted t = t
 
-  pub layout_told : b ≡ false → Tells l (refusal_with (type_fields_meant b) edition p)
-  unfolding refusal_with type_fields_meant
-  layout_told e = rw e (rw e at tl)
+  module _ (tl : none ≡ layout_refusal (type_fields_meant b) edition p) where
+    pub layout_told : b ≡ false → none ≡ refusal_with (type_fields_meant b) edition p
+    unfolding refusal_with type_fields_meant
+    layout_told e = rw e (rw e at tl)
 
-  pub walk_told : b ≡ true → l.number ≡ 0 → (T R : ℕ) → T ≡ type_count p → R ≡ record_count p → (w : Verdict)
-      → Tells w (walked R (entries_in (take (4 + 6 * T - 4) (drop 4 p))) (records_in (take (length p - (4 + 6 * T)) (drop (4 + 6 * T) p))) [] 0 1)
-      → Tells w (refusal_with (type_fields_meant b) edition p)
-  unfolding refusal_with refusal type_fields_meant
-  walk_told e z T R eT eR w tw =
-      let m = layout_passed (type_fields_meant b) edition p l tl z in
-      rw e (tells_next l w _ _ (rw e at tl) z (rw (records_counted p ∙ sym eR, layout_table_slice _ edition p m T eT, layout_records_slice _ edition p m T eT) tw))
+    pub walk_told : b ≡ true → (T R : ℕ) → T ≡ type_count p → R ≡ record_count p → (q : Option Refusal)
+        → q ≡ walked R (entries_in (take (4 + 6 * T - 4) (drop 4 p))) (records_in (take (length p - (4 + 6 * T)) (drop (4 + 6 * T) p))) [] 0 1
+        → q ≡ refusal_with (type_fields_meant b) edition p
+    unfolding refusal_with refusal type_fields_meant
+    walk_told e T R eT eR q tw =
+        let m = layout_passed (type_fields_meant b) edition p tl in
+        rw e (reports_next q _ _ (rw e at tl) (rw (records_counted p ∙ sym eR, layout_table_slice _ edition p m T eT, layout_records_slice _ edition p m T eT) tw))
 
 -- The refusal of a program whose types are given, and of one whose types are omitted.
-module _ (edition : Edition) (p : List ℕ) (w : Verdict) where
-  pub with_given : Tells w (refusal_with (type_fields_meant true) edition p) → Tells w (refusal edition p)
+module _ (edition : Edition) (p : List ℕ) (q : Option Refusal) where
+  pub with_given : q ≡ refusal_with (type_fields_meant true) edition p → q ≡ refusal edition p
   unfolding refusal_with type_fields_meant
   with_given t = t
 
-  pub with_omitted : Tells w (refusal_with (type_fields_meant false) edition p) → Tells w (layout_refusal omitted edition p)
+  pub with_omitted : q ≡ refusal_with (type_fields_meant false) edition p → q ≡ layout_refusal omitted edition p
   unfolding refusal_with type_fields_meant
   with_omitted t = t
 
-pub ruleset walking_on = (layout_refused, layout_told, walk_told, with_given, with_omitted)
+pub ruleset walking_on = (layout_refused, layout_told, walk_told)

@@ -1,37 +1,17 @@
 -- Rule 6 by the tests of the code: `entering` for search. Assumes nothing.
 use Prim.Native.Nat.{ℕ, suc, ◌+◌, ◌-◌, ◌≤◌, ◌<◌}
 use native.Mathlib.Omega.{arith}
-use mathlib.Core.Bool.{Bool, true, false, ◌&&◌, and-true}
+use mathlib.Core.Bool.{Bool, true, false}
 use mathlib.Core.Path.{◌≡◌, refl, sym, ap, ap₂, ◌∙◌}
 use lib.Dec.{eqb}
 use borrow.Author.Tests.{eq-eqb, ne_eqb}
 use Rattle.rules.specs.Lists.{pick, total}
-use Rattle.rules.specs.Types.{Entry, Table, entry}
-use Rattle.rules.specs.Conditions.{between, same_entry, met, holds}
-use Rattle.rules.specs.Check.{kind_rule, alike, entry_rule}
+use Rattle.rules.specs.Types.{Table, entry}
+use Rattle.rules.specs.Conditions.{same_entry}
+use Rattle.rules.specs.Check.{alike}
 use Rattle.records.specs.declared.Entry.{Entry as Read}
 use Rattle.records.specs.Meant.{entry_meant}
 use Rattle.records.specs.Places.{Within}
-
--- The kinds of entries.
-module _ (k a b n : ℕ) where
-  abbrev made : Entry
-  made = record { kind = k; a = a; b = b }
-
-  abbrev earlier : ℕ → Bool
-  earlier x = met (between 1 x (n - 1))
-
-  pub kind_nat : (r : Bool) → k ≡ 1 → r ≡ eqb a 0 && eqb b 0 → r ≡ holds (kind_rule n made)
-  kind_nat r e h = rw e (h ∙ sym (and-true (eqb a 0 && eqb b 0)))
-
-  pub kind_fn : (r p q : Bool) → k ≡ 2 → p ≡ earlier a → q ≡ earlier b → r ≡ p && q → r ≡ holds (kind_rule n made)
-  kind_fn r p q e f g h = rw e (h ∙ ap₂ ◌&&◌ f (g ∙ sym (and-true (earlier b))))
-
-  pub kind_code : (r p : Bool) → k ≡ 3 → p ≡ earlier a → r ≡ p && eqb b 0 → r ≡ holds (kind_rule n made)
-  kind_code r p e f h = rw e (h ∙ ap₂ ◌&&◌ f (sym (and-true (eqb b 0))))
-
-  pub kind_other : (k ≡ 1 → ⊥) → (k ≡ 2 → ⊥) → (k ≡ 3 → ⊥) → false ≡ holds (kind_rule n made)
-  kind_other x y z = simp (ne_eqb k 1 x, ne_eqb k 2 y, ne_eqb k 3 z)
 
 -- Entry n and each earlier one: the scan has passed those below m.
 abbrev pub like : Table → ℕ → ℕ → ℕ
@@ -73,8 +53,4 @@ module _ (types : Table) (n : ℕ) where
   unfolding total
   apart_ends m a h = let e : n - m ≡ 0 = omega arith in sym (eq-eqb (alike types n) 0 (a.left ∙ ap (total (like types n) m) e))
 
-  -- Both parts of the rule.
-  pub entry_told : (x : Entry) (p q r : Bool) → x ≡ entry types n → p ≡ eqb (alike types n) 0 → q ≡ holds (kind_rule n x) → r ≡ p && q → r ≡ holds (entry_rule types n)
-  entry_told x p q r e f g h = h ∙ ap₂ ◌&&◌ f (g ∙ ap (λ y. holds (kind_rule n y)) e)
-
-pub ruleset entering = (kind_nat, kind_fn, kind_code, kind_other, apart_starts, apart_goes_on, apart_finds, apart_ends, entry_told)
+pub ruleset entering = (apart_starts, apart_goes_on, apart_finds, apart_ends)

@@ -7,7 +7,7 @@ use mathlib.Core.Bool.{Bool, true, false, not, ◌&&◌, and-true, and-false}
 use mathlib.Core.List.{List}
 use mathlib.Core.Path.{◌≡◌, refl, sym, ap, ap₂, ◌∙◌}
 use lib.Dec.{eqb}
-use lib.ListN.{length, get_or, replicate, length-replicate}
+use lib.ListN.{length, get_or, replicate}
 use borrow.Author.Tests.{eq-eqb, ne_eqb, not-true, not-false}
 use Rattle.rules.specs.Lists.{pick, total}
 use Rattle.rules.specs.Types.{Entry, Table, entry}
@@ -20,7 +20,7 @@ use Rattle.records.specs.declared.Entry.{Entry as Read}
 use Rattle.records.specs.Meant.{entry_meant}
 use Rattle.records.specs.Places.{IsEntry}
 use Rattle.fields.specs.BitSets.{member, Inserted}
-use Rattle.fields.specs.Noting.{parts, Noted, CanNote, Notes, CanScanTable}
+use Rattle.fields.specs.Noting.{parts, Noted, CanNote, Notes}
 
 -- The kind of a good entry is known by its parts, which are below its number, and so below 256.
 abbrev kind_by : ℕ → ℕ → ℕ
@@ -105,29 +105,9 @@ module _ (types : Table) (seen : List ℕ) (n : ℕ) (c : CanNote types seen n) 
         };
       }
 
--- The scan: an empty set that is large enough, its start, and the next entry.
-module _ (types : Table) (seen : List ℕ) (count : ℕ) (e : length types ≡ count) where
-  pub few_scanned : count ≤ 64 → seen ≡ replicate 256 0 → CanScanTable types seen count
-  few_scanned l z = record { counted = e; few = omega arith; words = 256; empty = z; room = omega arith }
+-- An empty set is that of no entries.
+pub noted_none : (types : Table) (words : ℕ) (seen : List ℕ) → seen ≡ replicate words 0 → Noted types seen 0
+unfolding total member
+noted_none types words seen e = record { kinds = λ m p q. absurd (omega arith); counted = λ k. rw (e, zeros words (k / 64)) (ap (λ x. x % 2) (zero-div (2 ^ (k % 64)))) }
 
-  pub many_scanned : count ≤ 256 → seen ≡ replicate 1024 0 → CanScanTable types seen count
-  many_scanned l z = record { counted = e; few = l; words = 1024; empty = z; room = omega arith }
-
-module _ (types : Table) (seen : List ℕ) (count : ℕ) where
-  pub noted_none : CanScanTable types seen count → Noted types seen 0
-  unfolding total member
-  noted_none c = record { kinds = λ m p q. absurd (omega arith); counted = λ k. rw (c.empty, zeros c.words (k / 64)) (ap (λ x. x % 2) (zero-div (2 ^ (k % 64)))) }
-
-  module _ (n : ℕ) (c : CanScanTable types seen count) (h : n < count) where
-    pub next_noted : (now : List ℕ) → length now ≡ length seen → Noted types now n → CanNote types now (n + 1)
-    next_noted now l p = let e : n + 1 - 1 ≡ n = omega arith in record {
-      within = record { some = omega arith; most = omega (arith, c.counted) };
-      few = omega (arith, c.few);
-      room = omega (arith, l, ap length c.empty, length-replicate {A = ℕ} c.words 0, c.room);
-      noted = rw e p;
-    }
-
-pub noted_on : (types : Table) (after : List ℕ) (n : ℕ) (b : Bool) → Notes types after n b → not b ≡ false → Noted types after n
-noted_on types after n b p k = p.noted (not-false b k)
-
-pub ruleset noting = (bad_kind, has_room, note_told, noted_none, next_noted, noted_on)
+pub ruleset noting = (bad_kind, has_room, note_told)

@@ -1,6 +1,6 @@
 -- Earlier entries by their parts, noted in a set: Nat has none, Code(a) has one and Fn(a,b) has two, so that good entries with the same parts are
 -- the same.
-use Rattle.std.specs.Prelude.{ℕ, ◌+◌, ◌-◌, ◌*◌, ◌≤◌, Bool, true, List, ◌≡◌, length, replicate}
+use Rattle.std.specs.Prelude.{ℕ, ◌+◌, ◌-◌, ◌*◌, ◌≤◌, Bool, true, List, ◌≡◌, length}
 use Rattle.rules.specs.Lists.{total}
 use Rattle.rules.specs.Types.{Entry, Table, entry}
 use Rattle.rules.specs.Conditions.{Holds, holds}
@@ -29,10 +29,9 @@ pub record Notes (types : Table) (after : List ℕ) (n : ℕ) (r : Bool) : Type 
   pub told : r ≡ holds (entry_rule types n)
   pub noted : r ≡ true → Noted types after n
 
--- A table of up to 256 entries can be scanned with an empty set of four words for each.
-pub record CanScanTable (types : Table) (seen : List ℕ) (count : ℕ) : Type 0 where
+-- A table of up to 256 entries can be scanned with a set of four words for each, and no more than for 256.
+pub record CanScanTable (types : Table) (words count : ℕ) : Type 0 where
   pub counted : length types ≡ count
   pub few : count ≤ 256
-  pub words : ℕ
-  pub empty : seen ≡ replicate words 0
   pub room : 4 * count ≤ words
+  pub most : words ≤ 1024

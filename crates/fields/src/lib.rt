@@ -6,26 +6,27 @@ ghost use Rattle.rules.specs.Conditions.{between, same_entry, met, holds};
 ghost use Rattle.rules.specs.FieldUses.{omitted};
 ghost use Rattle.rules.specs.Format.{record_no};
 ghost use Rattle.kinds.specs.Meant.{edition_meant, type_fields_meant};
+ghost use Rattle.kinds.specs.Named.{use_meant};
 ghost use Rattle.rules.specs.Refusals.{bad_entry, bad_field, type_written, lowest};
 ghost use Rattle.rules.specs.Check.{kind_rule, alike, entry_rule, fields_rule, omitted_rule};
 ghost use Rattle.records.specs.View.{entries_in, records_in};
 ghost use Rattle.records.specs.Meant.{entry_meant, record_meant};
-ghost use Rattle.refusals.specs.Tells.{Tells};
+ghost use Rattle.refusals.specs.Reports.{Reports};
 ghost use Rattle.records.specs.Places.{Within};
 ghost use Rattle.fields.specs.Sizes.{Sized};
 ghost use Rattle.fields.specs.Fields.{FieldTested, FieldsTested};
 ghost use Rattle.fields.specs.BitSets.{Inserted};
 ghost use Rattle.fields.specs.Noting.{CanNote, Notes, CanScanTable};
 
-use kinds::{Edition, both, either, in_range};
+use kinds::{Edition, Kind, Use};
 use records::{Entry, Record};
-use refusals::Verdict;
+use refusals::{Reason, Refusal, lowest_refusal};
 
 // Whether two entries are the same.
 pub fn same_entry(x: Entry, y: Entry) -> bool
     ensures { result ≡ same_entry (entry_meant x) (entry_meant y) }
 {
-    both(x.kind == y.kind, both(x.a == y.a, x.b == y.b))
+    x == y
 }
 
 // Whether x is the number of an entry before entry n.
@@ -33,7 +34,7 @@ fn is_earlier(x: u16, n: u16) -> bool
     requires { 1 ≤ n }
     ensures { result ≡ met (between 1 x (n - 1)) }
 {
-    in_range(1, x as u32, (n - 1) as u32)
+    (1 <= x) & (x < n)
 }
 
 // Whether entry n, e, is of a kind that there is, and its parts are earlier entries.
@@ -41,11 +42,10 @@ fn kind_ok(e: Entry, n: u16) -> bool
     requires { 1 ≤ n }
     ensures { result ≡ holds (kind_rule n (entry_meant e)) }
 {
-    let kind = e.kind;
-    match kind {
-        1 => both(e.a == 0, e.b == 0),
-        2 => both(is_earlier(e.a, n), is_earlier(e.b, n)),
-        3 => both(is_earlier(e.a, n), e.b == 0),
+    match e.kind {
+        1 => (e.a == 0) & (e.b == 0),
+        2 => is_earlier(e.a, n) & is_earlier(e.b, n),
+        3 => is_earlier(e.a, n) & (e.b == 0),
         _ => false,
     }
 }
@@ -56,12 +56,10 @@ fn alone(table: &[u8], n: u16) -> bool
     ensures { result ≡ eqb (alike (entries_in table.now) n) 0 }
 {
     let e = records::entry_no(table, n);
-    let mut m: u16 = 1;
-    while m < n {
-        if same_entry(records::entry_no(table, m), e) {
+    for m in 1..n {
+        if records::entry_no(table, m) == e {
             return false;
         }
-        m += 1;
     }
     true
 }
@@ -71,22 +69,22 @@ fn entry_ok(table: &[u8], n: u16) -> bool
     requires { Within (entries_in table.now) n }
     ensures { result ≡ holds (entry_rule (entries_in table.now) n) }
 {
-    both(alone(table, n), kind_ok(records::entry_no(table, n), n))
+    alone(table, n) & kind_ok(records::entry_no(table, n), n)
 }
 
 // Refusal 6, each entry compared with each earlier one.
-fn pairs_refusal(table: &[u8], types: u16) -> Verdict
+fn pairs_refusal(table: &[u8], types: u16) -> Result<(), Refusal>
     requires { length (entries_in table.now) ≡ types }
-    ensures { Tells result (lowest (entry_rule (entries_in table.now)) bad_entry 1 types) }
+    ensures { Reports result (lowest (entry_rule (entries_in table.now)) bad_entry 1 types) }
 {
-    let mut n: u16 = 0;
-    while n < types {
-        n += 1;
-        if !entry_ok(table, n) {
-            return refusals::refuse(refusals::BAD_ENTRY, n);
-        }
-    }
-    refusals::no_refusal()
+    lowest_refusal(
+        Reason::BadEntry,
+        types,
+        |n: u16| -> bool
+            requires { Within (entries_in table.now) n }
+            ensures { result ≡ holds (entry_rule (entries_in table.entry.now) n) }
+        { entry_ok(table, n) },
+    )
 }
 
 // Puts k into a set of numbers, and says whether it was not in it.
@@ -115,49 +113,52 @@ fn note(table: &[u8], seen: &mut [u64], n: u16) -> bool
     insert(seen, 256 * (e.a as usize) + (e.b as usize))
 }
 
-// Refusal 6, each entry looked up in the set of the parts noted, which is empty at first.
-fn set_refusal(table: &[u8], seen: &mut [u64], types: u16) -> Verdict
-    requires { CanScanTable (entries_in table.now) seen.old types }
-    ensures { Tells result (lowest (entry_rule (entries_in table.now)) bad_entry 1 types) }
+// Refusal 6, each entry looked up in the set of the parts noted, which has N words and is empty at first.
+fn set_refusal<const N: usize>(table: &[u8], types: u16) -> Result<(), Refusal>
+    requires { CanScanTable (entries_in table.now) N types }
+    ensures { Reports result (lowest (entry_rule (entries_in table.now)) bad_entry 1 types) }
 {
-    let mut n: u16 = 0;
-    while n < types {
-        n += 1;
-        if !note(table, seen, n) {
-            return refusals::refuse(refusals::BAD_ENTRY, n);
+    let mut seen = [0u64; N];
+    for i in 0..types {
+        let n = i + 1;
+        if !note(table, &mut seen, n) {
+            return Err(Refusal {
+                reason: Reason::BadEntry,
+                place: n,
+            });
         }
     }
-    refusals::no_refusal()
+    Ok(())
 }
 
 // Refusal 6: the lowest entry that is bad. Few entries are sooner compared each with each than a set is cleared, more have a set of their size, and
 // none has a place for the parts of more than 256.
-pub fn entries_refusal(table: &[u8], types: u16) -> Verdict
+pub fn entries_refusal(table: &[u8], types: u16) -> Result<(), Refusal>
     requires { length (entries_in table.now) ≡ types }
-    ensures { Tells result (lowest (entry_rule (entries_in table.now)) bad_entry 1 types) }
+    ensures { Reports result (lowest (entry_rule (entries_in table.now)) bad_entry 1 types) }
 {
     match types {
-        17..=64 => {
-            let mut few = [0u64; 256];
-            set_refusal(table, &mut few, types)
-        }
-        65..=256 => {
-            let mut seen = [0u64; 1024];
-            set_refusal(table, &mut seen, types)
-        }
+        17..=64 => set_refusal::<256>(table, types),
+        65..=256 => set_refusal::<1024>(table, types),
         _ => pairs_refusal(table, types),
     }
 }
 
-// Whether a field x is good for the use with that number, where there are `types` entries. 0: it is unused, and 0. 2: it names an entry.
-// An index and a number may be any.
-fn field_ok(usage: u16, types: u16, x: u32) -> bool
-    ensures { FieldTested usage types x result }
+// Whether x is the number of one of the `types` entries.
+fn is_entry(types: u16, x: u32) -> bool
+    ensures { result ≡ met (between 1 x types) }
+{
+    (1 <= x) & (x <= types as u32)
+}
+
+// Whether a field x is good for its use, where there are `types` entries. An index and a number may be any.
+fn field_ok(usage: Use, types: u16, x: u32) -> bool
+    ensures { FieldTested (use_meant usage) types x result }
 {
     match usage {
-        0 => x == 0,
-        2 => in_range(1, x, types as u32),
-        _ => true,
+        Use::Unused => x == 0,
+        Use::Entry => is_entry(types, x),
+        Use::Index | Use::Value => true,
     }
 }
 
@@ -166,13 +167,15 @@ fn field_ok(usage: u16, types: u16, x: u32) -> bool
 fn fields_ok(types: u16, r: Record, edition: Edition, given: bool) -> bool
     ensures { FieldsTested (type_fields_meant given) (edition_meant edition) types (record_meant r) result }
 {
-    let kind = r.kind;
-    let known = in_range(1, kind as u32, edition.last_kind as u32);
-    let ty = either(!given, in_range(1, r.ty as u32, types as u32));
-    let a = field_ok(kinds::use_of_a(kind), types, r.a as u32);
-    let b = field_ok(kinds::use_of_b(kind), types, r.b as u32);
-    let value = field_ok(kinds::use_of_value(kind), types, r.value);
-    both(known, both(ty, both(a, both(b, value))))
+    if r.kind < 1 || edition.last_kind < r.kind {
+        return false;
+    }
+    let kind = Kind::of(r.kind);
+    let ty = !given | is_entry(types, r.ty as u32);
+    let a = field_ok(kind.use_of_a(), types, r.a as u32);
+    let b = field_ok(kind.use_of_b(), types, r.b as u32);
+    let value = field_ok(kind.use_of_value(), types, r.value);
+    ty & a & b & value
 }
 
 // Refusal 7: the lowest record with a bad kind, type, a, b or value. Where types are not given, but omitted, it "doesn't look at the type field".
@@ -183,40 +186,31 @@ pub fn fields_refusal(
     count: u16,
     edition: Edition,
     given: bool,
-) -> Verdict
+) -> Result<(), Refusal>
     requires { Sized (entries_in table.now) types (records_in records.now) count }
-    ensures { Tells result (lowest (λ n. fields_rule (type_fields_meant given) (edition_meant edition) (entries_in table.now) (record_no (records_in records.now) n)) bad_field 1 count) }
+    ensures { Reports result (lowest (λ n. fields_rule (type_fields_meant given) (edition_meant edition) (entries_in table.now) (record_no (records_in records.now) n)) bad_field 1 count) }
 {
-    let mut n: u16 = 0;
-    while n < count {
-        n += 1;
-        if !fields_ok(types, records::record_no(records, n), edition, given) {
-            return refusals::refuse(refusals::BAD_FIELD, n);
-        }
-    }
-    refusals::no_refusal()
-}
-
-// Whether record n has no type written.
-fn is_omitted(records: &[u8], n: u16) -> bool
-    requires { Within (records_in records.now) n }
-    ensures { result ≡ holds (omitted_rule omitted (records_in records.now) n) }
-{
-    let r = records::record_no(records, n);
-    r.ty == 0
+    lowest_refusal(
+        Reason::BadField,
+        count,
+        |n: u16| -> bool
+            requires { Within (records_in records.now) n }
+            ensures { FieldsTested (type_fields_meant given) (edition_meant edition) types (record_no (records_in records.entry.now) n) result }
+        { fields_ok(types, records::record_no(records, n), edition, given) },
+    )
 }
 
 // Refusal 13, where types are omitted: the lowest record with a nonzero type field.
-pub fn omitted_refusal(records: &[u8], count: u16) -> Verdict
+pub fn omitted_refusal(records: &[u8], count: u16) -> Result<(), Refusal>
     requires { length (records_in records.now) ≡ count }
-    ensures { Tells result (lowest (omitted_rule omitted (records_in records.now)) type_written 1 count) }
+    ensures { Reports result (lowest (omitted_rule omitted (records_in records.now)) type_written 1 count) }
 {
-    let mut n: u16 = 0;
-    while n < count {
-        n += 1;
-        if !is_omitted(records, n) {
-            return refusals::refuse(refusals::TYPE_WRITTEN, n);
-        }
-    }
-    refusals::no_refusal()
+    lowest_refusal(
+        Reason::TypeWritten,
+        count,
+        |n: u16| -> bool
+            requires { Within (records_in records.now) n }
+            ensures { result ≡ holds (omitted_rule omitted (records_in records.entry.now) n) }
+        { records::record_no(records, n).ty == 0 },
+    )
 }

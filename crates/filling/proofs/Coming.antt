@@ -6,6 +6,7 @@ use mathlib.Core.List.{List}
 use mathlib.Core.Option.{none}
 use lib.ListN.{length, take}
 use lib.Seq.{length-take-le}
+use Rattle.std.specs.Prelude.{Result, Ok}
 use Rattle.rules.specs.Types.{Table}
 use Rattle.rules.specs.Typing.{Env}
 use Rattle.rules.specs.Format.{Record, most_types}
@@ -14,8 +15,7 @@ use Rattle.rules.specs.Refusals.{bad_children, lowest}
 use Rattle.rules.specs.Check.{children_rule}
 use Rattle.rules.proofs.Tree.{first_le, next_le, chain_size, chain_none}
 use Rattle.inference.proofs.Growing.{longer}
-use Rattle.refusals.proofs.Laws.{no_number}
-use Rattle.refusals.specs.Tells.{shown}
+use Rattle.refusals.specs.declared.reasons.Refusal.{Refusal}
 use Rattle.judging.specs.Stack.{stack}
 use Rattle.typing.specs.declared.Child.{Child}
 use Rattle.typing.specs.Entering.{CanEnter, Enters}
@@ -23,8 +23,7 @@ use Rattle.typing.specs.Walking.{tree_size}
 use Rattle.typing.proofs.Depths.{stack_below}
 use Rattle.typing.proofs.TreeCounts.{tree_then_chain, record_then_chain}
 use Rattle.filling.specs.declared.Progress.{Progress}
-use Rattle.filling.specs.Filling.{verdict_of, size_at, CanInfer, CanFill, CanFillChild, FillsChild, CanSettle}
-use Rattle.filling.proofs.FaultLaws.{clear_before}
+use Rattle.filling.specs.Filling.{size_at, CanInfer, CanFill, Fills, CanFillChild, CanSettle}
 use Rattle.filling.proofs.Inferring.{GoesOn, goes_on, infers_on, wanted_follows, can_grow}
 
 -- A child's tree, which may be none, then the chain after it.
@@ -45,33 +44,31 @@ pub record Come (rs : List Record) (es : Table) (gs bs : List ℕ) (d n types le
   pub table : length es' ≡ length es
   pub given : length gs' ≡ length gs
   pub kept : stack bs' d ≡ stack bs d
-  pub clear : r.number ≡ 0 → r.place ≡ 0
-  pub few : r.number ≡ 0 → r.types ≤ most_types
-  pub infers : r.number ≡ 0 → CanInfer rs (take r.types es') (stack bs d)
-  pub low : r.number ≡ 0 → x ≤ r.types
+  pub few : r.types ≤ most_types
+  pub infers : CanInfer rs (take r.types es') (stack bs d)
+  pub low : x ≤ r.types
   pub less : r.left < left
   pub within : child ≤ length rs
-  pub counted : r.number ≡ 0 → r.left + tree_size rs n ≡ left + chain_size rs child
+  pub counted : r.left + tree_size rs n ≡ left + chain_size rs child
 
 -- Where record n is entered.
 module _ (rs : List Record) (es : Table) (gs bs : List ℕ) (d n types left : ℕ) (can : CanFill rs es gs bs d n types left) where
   pub one_left : 1 ≤ left
   one_left = omega (arith, can.enough, record_then_chain rs can.chained n can.here.real can.here.within)
 
-  pub entered : Come rs es gs bs d n types left es gs bs (first_of rs n) 0 (record { number = 0; place = 0; types = types; ty = 0; left = left - 1 })
+  pub entered : Come rs es gs bs d n types left es gs bs (first_of rs n) 0 (record { types = types; ty = 0; left = left - 1 })
   entered = record {
     can = can;
     binders = refl;
     table = refl;
     given = refl;
     kept = refl;
-    clear = λ _. refl;
-    few = λ _. can.few;
-    infers = λ _. can.infers;
-    low = λ _. omega arith;
+    few = can.few;
+    infers = can.infers;
+    low = omega arith;
     less = omega (arith, one_left);
     within = first_le rs n;
-    counted = λ _. omega (arith, one_left, record_then_chain rs can.chained n can.here.real can.here.within);
+    counted = omega (arith, one_left, record_then_chain rs can.chained n can.here.real can.here.within);
   }
 
 module _ {rs : List Record} {es : Table} {gs bs : List ℕ} {d n types left : ℕ} {es' : Table} {gs' bs' : List ℕ} {child x : ℕ} {r : Progress}
@@ -80,18 +77,18 @@ module _ {rs : List Record} {es : Table} {gs bs : List ℕ} {d n types left : �
   come_enter = record { here = come.can.here; room = omega (arith, come.can.binders, come.binders, one_left rs es gs bs d n types left come.can) }
 
   -- The table as it is now has so many entries.
-  room : r.number ≡ 0 → r.types < length es'
-  room z = omega (arith, come.few z, come.can.table, come.table)
+  room : r.types < length es'
+  room = omega (arith, come.few, come.can.table, come.table)
 
-  long : r.number ≡ 0 → length (take r.types es') ≡ r.types
-  long z = length-take-le r.types es' (omega (arith, room z))
+  long : length (take r.types es') ≡ r.types
+  long = length-take-le r.types es' (omega (arith, room))
 
-  pub come_settle : (y : ℕ) → r.number ≡ 0 → CanSettle rs es' gs' bs' d n left r x y
-  come_settle y z = record {
+  pub come_settle : (y : ℕ) → CanSettle rs es' gs' bs' d n left r x y
+  come_settle y = record {
     here = come.can.here;
     binders = omega (arith, come.can.binders, come.binders);
-    table = can_grow (come.infers z) (room z) (come.few z);
-    follows = rw come.kept (rw (long z) at (wanted_follows (come.infers z) n come.can.here.real come.can.here.within x y (omega (arith, long z, come.low z))));
+    table = can_grow come.infers room come.few;
+    follows = rw come.kept (rw long at (wanted_follows come.infers n come.can.here.real come.can.here.within x y (omega (arith, long, come.low))));
     some = one_left rs es gs bs d n types left come.can;
     given = omega (arith, come.can.given, come.given);
   }
@@ -99,65 +96,66 @@ module _ {rs : List Record} {es : Table} {gs bs : List ℕ} {d n types left : �
   -- The next child's tree can be walked with the records left.
   module _ {Γ : Env} {k : ℕ} {bs₁ : List ℕ} {c : Child} (enters : Enters Γ k child bs' bs₁ d c) (same : length bs₁ ≡ length bs')
       (over : (A : Table) → CanInfer rs A (stack bs' d) → CanInfer rs A Γ) where
-    child_infers : r.number ≡ 0 → CanInfer rs (take r.types es') (stack bs₁ c.depth)
-    child_infers z = rw enters.over (over _ (rw come.kept (come.infers z)))
+    child_infers : CanInfer rs (take r.types es') (stack bs₁ c.depth)
+    child_infers = rw enters.over (over _ (rw come.kept come.infers))
 
     pub come_child : CanFillChild rs es' gs' bs₁ c.depth c.n r
     come_child = record {
-      clear = come.clear;
       few = come.few;
-      can = λ z there.
+      can = λ there.
           let here : (child ≡ 0 → ⊥) = λ e. there (enters.number ∙ e) in
           let size = child_then_chain rs come.can.chained child come.within in
           let is = size_there rs child here in
           rw enters.number (record {
             here = record { linked = come.can.here.linked; real = omega (arith, here); within = come.within };
             chained = come.can.chained;
-            enough = omega (arith, come.counted z, come.can.enough);
+            enough = omega (arith, come.counted, come.can.enough);
             most = omega (arith, come.less, come.can.most);
             binders = omega (arith, come.less, come.can.binders, come.binders, enters.most);
             table = omega (arith, come.can.table, come.table);
-            few = come.few z;
+            few = come.few;
             given = omega (arith, come.less, come.can.given, come.given);
-            infers = child_infers z;
+            infers = child_infers;
           });
     }
 
+    -- What the walk of the child keeps, whatever comes of it.
+    module _ {es₁ : Table} {gs₁ bs₂ : List ℕ} {o : Result Progress Refusal} (fills : Fills rs es' es₁ gs' gs₁ bs₁ bs₂ c.depth c.level c.n r.types r.left o) where
+      pub still_kept : stack bs₂ d ≡ stack bs d
+      still_kept = stack_below bs₂ bs₁ d c.depth enters.above fills.kept ∙ enters.kept ∙ come.kept
+
+      pub still_room : length es₁ ≡ length es
+      still_room = fills.room ∙ come.table
+
     -- And then the walk has come further.
-    module _ {es₁ : Table} {gs₁ bs₂ : List ℕ} {q : Progress} (fills : FillsChild rs es' es₁ gs' gs₁ bs₁ bs₂ c.depth c.level c.n r q) where
-      before : q.number ≡ 0 → r.number ≡ 0
-      before = clear_before r q fills.stays
+    module _ {es₁ : Table} {gs₁ bs₂ : List ℕ} {q : Progress} (fills : Fills rs es' es₁ gs' gs₁ bs₁ bs₂ c.depth c.level c.n r.types r.left (Ok q)) where
+      grows : GoesOn (take r.types es') (take q.types es₁) fills.done.term
+      grows = goes_on child_infers come.can.chained c.level c.n (omega (arith, enters.number, come.within)) _ _ fills.done.is
 
-      grows : (z : q.number ≡ 0) → GoesOn (take r.types es') (take q.types es₁) ((fills.goes (before z)).done z).term
-      grows z = goes_on (child_infers (before z)) come.can.chained c.level c.n (omega (arith, enters.number, come.within)) _ _ ((fills.goes (before z)).done z).is
-
-      grown : (z : q.number ≡ 0) → length (take q.types es₁) ≡ q.types
-      grown z = length-take-le q.types es₁ (omega (arith, ((fills.goes (before z)).done z).few, come.can.table, come.table, fills.room))
+      grown : length (take q.types es₁) ≡ q.types
+      grown = length-take-le q.types es₁ (omega (arith, fills.done.few, come.can.table, come.table, fills.room))
 
       -- The type of this tree, and that of one before it.
-      pub come_type : q.number ≡ 0 → q.ty ≤ q.types
-      come_type z = omega (arith, ((fills.goes (before z)).done z).type, (grows z).low, grown z)
+      pub come_type : q.ty ≤ q.types
+      come_type = omega (arith, fills.done.type, grows.low, grown)
 
-      pub come_before : q.number ≡ 0 → x ≤ q.types
-      come_before z = omega (arith, come.low (before z), long (before z), longer (grows z).begins, grown z)
+      pub come_before : x ≤ q.types
+      come_before = omega (arith, come.low, long, longer grows.begins, grown)
 
-      pub come_further : (x' : ℕ) → (q.number ≡ 0 → x' ≤ q.types) → length gs₁ ≡ length gs' → length bs₂ ≡ length bs₁ → Come rs es gs bs d n types left es₁ gs₁ bs₂ (next_of rs child) x' q
-      unfolding shown
+      pub come_further : (x' : ℕ) → x' ≤ q.types → length gs₁ ≡ length gs' → length bs₂ ≡ length bs₁ → Come rs es gs bs d n types left es₁ gs₁ bs₂ (next_of rs child) x' q
       come_further x' low given kept = record {
         can = come.can;
         binders = kept ∙ same ∙ come.binders;
-        table = fills.room ∙ come.table;
+        table = still_room fills;
         given = given ∙ come.given;
-        kept = stack_below bs₂ bs₁ d c.depth enters.above fills.kept ∙ enters.kept ∙ come.kept;
-        clear = λ z. let t = (fills.goes (before z)).tells in ap (λ v. v.place) (t.is ∙ ap shown (no_number (verdict_of q) _ t z));
-        few = λ z. ((fills.goes (before z)).done z).few;
-        infers = λ z. infers_on (come.infers (before z)) (grows z);
+        kept = still_kept fills;
+        few = fills.done.few;
+        infers = infers_on come.infers grows;
         low = low;
-        less = omega (arith, fills.less, come.less);
+        less = omega (arith, fills.done.counted, come.less);
         within = next_le rs child;
-        counted = λ z.
-            let b = before z in
+        counted =
             let size = child_then_chain rs come.can.chained child come.within in
             let at : size_at rs c.n ≡ size_at rs child = ap (size_at rs) enters.number in
-            omega (arith, come.counted b, ((fills.goes b).done z).counted);
+            omega (arith, come.counted, fills.done.counted);
       }

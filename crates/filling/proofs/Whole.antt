@@ -1,10 +1,11 @@
--- The walk from the root: its tree has all the records. `filling_all` for search.
+-- The walk from the root: its tree has all the records.
 use Prim.Native.Nat.{ℕ, ◌-◌, ◌*◌, ◌≤◌}
 use native.Mathlib.Omega.{arith}
 use mathlib.Core.Path.{◌≡◌, ap, sym, ◌∙◌}
-use mathlib.Core.List.{List, ◌++◌}
+use mathlib.Core.List.{List, [], ◌++◌}
 use lib.ListN.{length, take}
 use lib.Seq.{take-length}
+use Rattle.std.specs.Prelude.{Result, Ok, Err, IfOk}
 use Rattle.rules.specs.Terms.{Term}
 use Rattle.rules.specs.Types.{Table}
 use Rattle.rules.specs.Format.{Record}
@@ -12,11 +13,12 @@ use Rattle.rules.specs.Refusals.{bad_link, bad_children}
 use Rattle.rules.proofs.Tests.{holds_lowest}
 use Rattle.rules.proofs.Tree.{whole_size}
 use Rattle.rules.proofs.Meaning.{no_bad_link}
-use Rattle.inference.specs.Inference.{types_of}
+use Rattle.inference.specs.Inference.{types_of, inferred_from}
+use Rattle.refusals.specs.declared.reasons.Refusal.{Refusal}
 use Rattle.judging.specs.Stack.{stack}
 use Rattle.typing.specs.Walking.{tree_size}
 use Rattle.filling.specs.declared.Progress.{Progress}
-use Rattle.filling.specs.Filling.{firsts, types_at, size_at, CanFill, Fills, CanFillAll, FillsAll}
+use Rattle.filling.specs.Filling.{firsts, types_at, size_at, CanFill, Filled, Fills, CanFillAll, FilledAll, FillsAll}
 
 module _ (rs : List Record) (count : ℕ) (es : Table) (types : ℕ) (gs : List ℕ) (h : CanFillAll rs count es types gs) where
   some : 1 ≤ length rs
@@ -47,14 +49,11 @@ module _ (rs : List Record) (count : ℕ) (es : Table) (types : ℕ) (gs : List 
       let back : length gs' - q ≡ length gs' = omega arith in
       sym (ap (λ n. take n gs') back ∙ take-length gs') ∙ e ∙ ap (λ n. take n gs ++ types_of t) front
 
-  pub root_filled : (es' : Table) (gs' bs bs' : List ℕ) (r : Progress) → Fills rs es es' gs gs' bs bs' 0 0 1 types count r → FillsAll rs count es es' types gs' r
+  pub root_filled : (es' : Table) (gs' bs bs' : List ℕ) (r : Result Progress Refusal) → Fills rs es es' gs gs' bs bs' 0 0 1 types count r → FillsAll rs count es es' types gs' r
   unfolding stack size_at
-  root_filled es' gs' bs bs' r f = rw (← h.tree.all) (record {
-    tells = f.tells;
-    done = λ z.
-        let d = f.done z in
-        record { term = d.term; is = d.is; few = d.few; type = d.type; types = all_types gs' r.left d.term (omega (arith, d.counted, whole, h.tree.all)) d.types };
-    room = f.room;
-  })
-
-pub ruleset filling_all = (root_asked, root_filled)
+  root_filled es' gs' bs bs' r f = rw (← h.tree.all) (record { reports = f.reports; done = by_result r f.done; room = f.room })
+    where
+      by_result : (r : Result Progress Refusal) → IfOk r (Filled rs es' gs gs' 1 count (inferred_from (length rs) (take types es) rs [] 0 1))
+          → IfOk r (FilledAll es' gs' (inferred_from (length rs) (take types es) rs [] 0 1))
+      by_result (Ok q) d = record { term = d.term; is = d.is; few = d.few; type = d.type; types = all_types gs' q.left d.term (omega (arith, d.counted, whole, h.tree.all)) d.types }
+      by_result (Err e) d = tt

@@ -1,5 +1,5 @@
 -- What the walk that gives records their types asks and answers.
-use Rattle.std.specs.Prelude.{ℕ, zero, suc, ◌+◌, ◌-◌, ◌*◌, ◌≤◌, ◌<◌, ◌≡◌, List, [], ◌++◌, length, set, take}
+use Rattle.std.specs.Prelude.{ℕ, zero, suc, ◌+◌, ◌-◌, ◌*◌, ◌≤◌, ◌<◌, ◌≡◌, List, [], ◌++◌, length, set, take, Result, Ok, Err, IfOk}
 use Rattle.std.proofs.Math.Option.{Option, none, some}
 use Rattle.rules.specs.Lists.{All}
 use Rattle.rules.specs.Terms.{Term, type_of}
@@ -8,29 +8,27 @@ use Rattle.rules.specs.Conditions.{Met, Holds}
 use Rattle.rules.specs.FieldUses.{is_entry, formed_besides}
 use Rattle.rules.specs.Typing.{Env}
 use Rattle.rules.specs.Format.{Record, most_types, most_records}
-use Rattle.rules.specs.Refusals.{Refusal, bad_children, lowest}
+use Rattle.rules.specs.Refusals.{bad_children, lowest}
+use Rattle.rules.specs.Refusals.{Refusal as MeantRefusal}
 use Rattle.rules.specs.Check.{entry_rule, children_rule}
 use Rattle.inference.specs.Inference.{Begins, types_of, wanted, Inference, faulty, filled, inferred_from}
 use Rattle.records.specs.declared.Record.{Record as Read}
 use Rattle.records.specs.Places.{IsRecord}
-use Rattle.refusals.specs.declared.Verdict.{Verdict}
-use Rattle.refusals.specs.Tells.{Tells}
+use Rattle.refusals.specs.declared.reasons.Refusal.{Refusal}
+use Rattle.refusals.specs.Reports.{Reports}
 use Rattle.judging.specs.Stack.{stack}
 use Rattle.typing.specs.Reading.{CanRead}
 use Rattle.typing.specs.Entering.{kind_no, fields_no}
 use Rattle.typing.specs.Walking.{tree_size, MakeTree}
+use Rattle.tables.specs.declared.Held.{Held}
 use Rattle.tables.specs.Having.{CanGrow}
-use Rattle.assigning.specs.declared.Assigned.{Assigned}
 use Rattle.assigning.specs.Assigning.{MayFollow, Assigns}
 use Rattle.filling.specs.declared.Progress.{Progress}
 
 -- The fault of an inference, or none.
-unfoldable pub fault_of : Inference → Option Refusal
+unfoldable pub fault_of : Inference → Option MeantRefusal
 fault_of (faulty r) = some r
 fault_of (filled types t) = none
-
-abbrev pub verdict_of : Progress → Verdict
-verdict_of r = record { number = r.number; place = r.place }
 
 -- The places of the types before the last `left`.
 unfoldable pub firsts : List ℕ → ℕ → List ℕ
@@ -79,26 +77,17 @@ pub record Filled (rs : List Record) (es' : Table) (gs gs' : List ℕ) (n left :
   pub types : firsts gs' r.left ≡ firsts gs left ++ types_at n term
   pub counted : r.left + size_at rs n ≡ left
 
--- r tells the fault of the inference of record n, or it is filled. The binders below the depth are kept.
-pub record Fills (rs : List Record) (es es' : Table) (gs gs' bs bs' : List ℕ) (depth level n types left : ℕ) (r : Progress) : Type 0 where
-  pub tells : Tells (verdict_of r) (fault_of (inferred_from (length rs) (take types es) rs (stack bs depth) level n))
-  pub done : r.number ≡ 0 → Filled rs es' gs gs' n left (inferred_from (length rs) (take types es) rs (stack bs depth) level n) r
+-- r reports the fault of the inference of record n, or it is filled. The binders below the depth are kept.
+pub record Fills (rs : List Record) (es es' : Table) (gs gs' bs bs' : List ℕ) (depth level n types left : ℕ) (r : Result Progress Refusal) : Type 0 where
+  pub reports : Reports r (fault_of (inferred_from (length rs) (take types es) rs (stack bs depth) level n))
+  pub done : IfOk r (Filled rs es' gs gs' n left (inferred_from (length rs) (take types es) rs (stack bs depth) level n))
   pub kept : stack bs' depth ≡ stack bs depth
-  pub less : r.left ≤ left
   pub room : length es' ≡ length es
 
--- The same of a child, which may be none, after what was walked before it.
+-- The tree of a child, which may be none, can be walked after what was walked before it.
 pub record CanFillChild (rs : List Record) (es : Table) (gs bs : List ℕ) (depth n : ℕ) (before : Progress) : Type 0 where
-  pub clear : before.number ≡ 0 → before.place ≡ 0
-  pub few : before.number ≡ 0 → before.types ≤ most_types
-  pub can : before.number ≡ 0 → (n ≡ 0 → ⊥) → CanFill rs es gs bs depth n before.types before.left
-
-pub record FillsChild (rs : List Record) (es es' : Table) (gs gs' bs bs' : List ℕ) (depth level n : ℕ) (before r : Progress) : Type 0 where
-  pub stays : (before.number ≡ 0 → ⊥) → verdict_of r ≡ verdict_of before
-  pub goes : before.number ≡ 0 → Fills rs es es' gs gs' bs bs' depth level n before.types before.left r
-  pub kept : stack bs' depth ≡ stack bs depth
-  pub less : r.left ≤ before.left
-  pub room : length es' ≡ length es
+  pub few : before.types ≤ most_types
+  pub can : (n ≡ 0 → ⊥) → CanFill rs es gs bs depth n before.types before.left
 
 -- Record n can be given its type.
 pub record CanSettle (rs : List Record) (es : Table) (gs bs : List ℕ) (depth n left : ℕ) (done : Progress) (x y : ℕ) : Type 0 where
@@ -109,14 +98,19 @@ pub record CanSettle (rs : List Record) (es : Table) (gs bs : List ℕ) (depth n
   pub some : 1 ≤ left
   pub given : left ≤ length gs
 
--- Record n gets its type, which is put at its place.
-pub record Settles (rs : List Record) (es es' : Table) (gs gs' bs : List ℕ) (depth level n left : ℕ) (done : Progress) (x y : ℕ) (r : Progress) : Type 0 where
+-- How far the walk has come where a record has its type, or why the record is refused.
+abbrev pub settled : ℕ → Result Held Refusal → Result Progress Refusal
+settled left (Ok held) = Ok (record { types = held.types; ty = held.number; left = left })
+settled left (Err r) = Err r
+
+-- Record n gets its type, which is put at its place, or it is refused.
+pub record Settles (rs : List Record) (es es' : Table) (gs gs' bs : List ℕ) (depth level n left : ℕ) (done : Progress) (x y : ℕ) (r : Result Progress Refusal) : Type 0 where
   pub own : Read
   pub read : IsRecord rs n own
-  pub assigned : Assigned
+  pub assigned : Result Held Refusal
   pub assigns : Assigns es es' done.types (stack bs depth) level n own x y done.ty assigned
-  pub given : gs' ≡ set gs (length gs - left) assigned.ty
-  pub told : r ≡ record { number = assigned.number; place = assigned.place; types = assigned.types; ty = assigned.ty; left = done.left }
+  pub given : IfOk assigned (λ held. gs' ≡ set gs (length gs - left) held.number)
+  pub told : r ≡ settled done.left assigned
 
 -- The records of a whole program, `count` of them, make one tree; 6 and 7 pass them; there is room for a 257th entry, and for the types.
 pub record CanFillAll (rs : List Record) (count : ℕ) (es : Table) (types : ℕ) (gs : List ℕ) : Type 0 where
@@ -134,7 +128,8 @@ pub record FilledAll (es : Table) (gs : List ℕ) (o : Inference) (r : Progress)
   pub type : r.ty ≡ type_of term
   pub types : gs ≡ types_of term
 
-pub record FillsAll (rs : List Record) (count : ℕ) (es es' : Table) (types : ℕ) (gs : List ℕ) (r : Progress) : Type 0 where
-  pub tells : Tells (verdict_of r) (fault_of (inferred_from count (take types es) rs [] 0 1))
-  pub done : r.number ≡ 0 → FilledAll es' gs (inferred_from count (take types es) rs [] 0 1) r
+-- r reports the fault of the inference of the root, or its tree is filled.
+pub record FillsAll (rs : List Record) (count : ℕ) (es es' : Table) (types : ℕ) (gs : List ℕ) (r : Result Progress Refusal) : Type 0 where
+  pub reports : Reports r (fault_of (inferred_from count (take types es) rs [] 0 1))
+  pub done : IfOk r (FilledAll es' gs (inferred_from count (take types es) rs [] 0 1))
   pub room : length es' ≡ length es

@@ -3,15 +3,15 @@
 // the record's number in preorder, so that a tree's are together.
 #![tactic(auto)]
 
+ghost use Rattle.std.specs.Prelude.{◌*◌, ◌≤◌};
 ghost use Rattle.records.specs.View.{entries_in, records_in};
-ghost use Rattle.filling.specs.Filling.{CanFill, Fills, CanFillChild, FillsChild, CanSettle, Settles, CanFillAll, FillsAll};
+ghost use Rattle.filling.specs.Filling.{CanFill, Fills, CanFillChild, CanSettle, Settles, CanFillAll, FillsAll};
 
-// How far the walk has come: the fault that was found, or 0 and 0; how many entries the table has; the type of the tree that was walked last, 0 for
-// none; and how many records are left.
+use refusals::Refusal;
+
+// How far the walk has come: how many entries the table has; the type of the tree that was walked last, 0 for none; and how many records are left.
 #[derive(Clone, Copy)]
 pub struct Progress {
-    pub number: u16,
-    pub place: u16,
     pub types: u16,
     pub ty: u16,
     pub left: u16,
@@ -31,26 +31,24 @@ fn settle(
     done: Progress,
     x: u16,
     y: u16,
-) -> Progress
+) -> Result<Progress, Refusal>
     requires { CanSettle (records_in records.now) (entries_in table.old) given.old binders.now depth n left done x y }
     ensures { Settles (records_in records.now) (entries_in table.old) (entries_in table.new) given.old given.new binders.now depth level n left done x y result }
 {
     let r = records::record_no(records, n);
-    let a = assigning::assign(
+    let held = assigning::assign(
         table, done.types, binders, depth, level, n, r, x, y, done.ty,
-    );
+    )?;
     let at = given.len() - (left as usize);
-    given[at] = a.ty;
-    Progress {
-        number: a.number,
-        place: a.place,
-        types: a.types,
-        ty: a.ty,
+    given[at] = held.number;
+    Ok(Progress {
+        types: held.types,
+        ty: held.number,
         left: done.left,
-    }
+    })
 }
 
-// Goes on with the tree of record n, if there is one and no fault was found before.
+// Goes on with the tree of record n, if there is one.
 #[cycle(fill_fill_child)]
 fn fill_child(
     records: &[u8],
@@ -61,18 +59,12 @@ fn fill_child(
     table: &mut [u8],
     given: &mut [u16],
     before: Progress,
-) -> Progress
+) -> Result<Progress, Refusal>
     requires { CanFillChild (records_in records.now) (entries_in table.old) given.old binders.old depth n before }
-    ensures { FillsChild (records_in records.now) (entries_in table.old) (entries_in table.new) given.old given.new binders.old binders.new depth level n before result }
+    ensures { Fills (records_in records.now) (entries_in table.old) (entries_in table.new) given.old given.new binders.old binders.new depth level n before.types before.left result }
 {
-    if n == 0 || before.number != 0 {
-        return Progress {
-            number: before.number,
-            place: before.place,
-            types: before.types,
-            ty: 0,
-            left: before.left,
-        };
+    if n == 0 {
+        return Ok(Progress { ty: 0, ..before });
     }
     fill(
         records,
@@ -100,13 +92,11 @@ fn fill(
     given: &mut [u16],
     types: u16,
     left: u16,
-) -> Progress
+) -> Result<Progress, Refusal>
     requires { CanFill (records_in records.now) (entries_in table.old) given.old binders.old depth n types left }
     ensures { Fills (records_in records.now) (entries_in table.old) (entries_in table.new) given.old given.new binders.old binders.new depth level n types left result }
 {
     let entered = Progress {
-        number: 0,
-        place: 0,
         types,
         ty: 0,
         left: left - 1,
@@ -115,38 +105,46 @@ fn fill(
     let e = typing::third_child(records, n);
     let first = fill_child(
         records, c.n, c.level, binders, c.depth, table, given, entered,
-    );
+    )?;
     let s = typing::second_child(records, binders, depth, level, n);
-    let second = fill_child(records, s.n, s.level, binders, s.depth, table, given, first);
-    let third = fill_child(records, e, level, binders, depth, table, given, second);
-    if third.number != 0 {
-        return third;
-    }
+    let second = fill_child(records, s.n, s.level, binders, s.depth, table, given, first)?;
+    let third = fill_child(records, e, level, binders, depth, table, given, second)?;
     settle(
         records, n, level, binders, depth, table, given, left, third, first.ty, second.ty,
     )
 }
 
-// Gives each record of the tree of record 1, the root, its type, at level 0 under no binders. A smaller program has a smaller stack, which is sooner
-// cleared.
+// Gives each record of the tree of record 1, the root, its type, at level 0 under no binders, with a stack of room for N of them, two a record.
+fn fill_in<const N: usize>(
+    records: &[u8],
+    count: u16,
+    table: &mut [u8],
+    types: u16,
+    given: &mut [u16],
+) -> Result<Progress, Refusal>
+    requires can_fill { CanFillAll (records_in records.now) count (entries_in table.old) types given.old }
+    requires enough_room { 2 * count ≤ N }
+    requires fits_a_stack { N ≤ 4096 }
+    ensures { FillsAll (records_in records.now) count (entries_in table.old) (entries_in table.new) types given.new result }
+{
+    let mut binders = [0u32; N];
+    fill(records, 1, 0, &mut binders, 0, table, given, types, count)
+}
+
+// The same. A smaller program has a smaller stack, which is sooner cleared.
 pub fn fill_all(
     records: &[u8],
     count: u16,
     table: &mut [u8],
     types: u16,
     given: &mut [u16],
-) -> Progress
+) -> Result<Progress, Refusal>
     requires { CanFillAll (records_in records.now) count (entries_in table.old) types given.old }
     ensures { FillsAll (records_in records.now) count (entries_in table.old) (entries_in table.new) types given.new result }
 {
-    if count <= 64 {
-        let mut few = [0u32; 128];
-        return fill(records, 1, 0, &mut few, 0, table, given, types, count);
+    match count {
+        0..=64 => fill_in::<128>(records, count, table, types, given),
+        65..=512 => fill_in::<1024>(records, count, table, types, given),
+        _ => fill_in::<4096>(records, count, table, types, given),
     }
-    if count <= 512 {
-        let mut some = [0u32; 1024];
-        return fill(records, 1, 0, &mut some, 0, table, given, types, count);
-    }
-    let mut binders = [0u32; 4096];
-    fill(records, 1, 0, &mut binders, 0, table, given, types, count)
 }

@@ -1,9 +1,6 @@
--- The laws of the judging of a record: what it reads, how tests are put together, the three rules by the kind, and their order.
+-- The laws of the judging of a record: what it reads, the type rule of a match, and the order of the three rules, and what the number of
+-- the answer names.
 pub mod Reading
-pub mod Testing
-pub mod Shapes
-pub mod KindNumbers
-pub mod IndexRule
-pub mod LevelRule
 pub mod TypeRule
 pub mod Order
+pub mod Naming

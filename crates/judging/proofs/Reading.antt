@@ -1,4 +1,4 @@
--- What the judging reads: an entry of the table by its number, and a binder of the stack by its index. `reading` for search.
+-- What the judging reads: an entry of the table by its number, and a binder of the stack by its index.
 use Prim.Native.Nat.{ℕ, zero, suc, ◌-◌, ◌*◌, ◌/◌, ◌%◌, ◌≤◌, ◌<◌}
 use native.Mathlib.Omega.{arith}
 use mathlib.Core.Path.{◌≡◌, refl, sym, ap, ◌∙◌}
@@ -43,5 +43,3 @@ module _ (bs : List ℕ) (d i : ℕ) where
 
   pub no_binder : d ≤ i → IsBinder (stack bs d) i (record { level = 2; ty = 0 })
   no_binder h = record { is = sym (get_or-eq_default (stack bs d) (bind 2 0) {n = i} (omega (arith, stack_length bs d))) }
-
-pub ruleset reading = (entry_there, binder_read, no_binder)

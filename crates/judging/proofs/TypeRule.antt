@@ -1,48 +1,52 @@
--- Rule 12 by the kind, and the pattern of a match.
+-- The type rule of a match: that of its children, then its pattern.
 use Prim.Native.Nat.{ℕ}
-use mathlib.Core.Path.{◌≡◌, refl, sym, ap, ◌∙◌}
-use mathlib.Core.List.{◌++◌}
-use mathlib.Core.Bool.{Bool, ◌&&◌}
-use Rattle.rules.specs.Lists.{listed}
-use Rattle.rules.specs.Kinds.{Shape, match_shape, match, Kind, ternary₃, numbered, kind_of}
+use mathlib.Core.Path.{◌≡◌, refl, sym, ap, ap₂, ◌∙◌}
+use mathlib.Core.List.{[], ◌∷◌, ◌++◌}
+use mathlib.Core.Bool.{Bool, ◌&&◌, and_assoc}
 use Rattle.rules.specs.Terms.{Fields}
 use Rattle.rules.specs.Types.{Table, part_a}
-use Rattle.rules.specs.Conditions.{holds}
-use Rattle.rules.specs.Typing.{Env, binder, typed}
-use Rattle.rules.proofs.General.{◌&◌}
-use Rattle.kinds.proofs.KindRanges.{in_range}
+use Rattle.rules.specs.Conditions.{met, Rule, holds}
+use Rattle.rules.specs.Typing.{Env, typed}
+use Rattle.kinds.specs.declared.names.Kind.{Kind}
+use Rattle.kinds.specs.declared.names.Kind.TheVariants.{Number, Variable, Function, Application, Fix, Lift, Quote, Splice, MatchNumber, MatchVariable, MatchApplication, MatchLift, MatchFunction, MatchFix}
+use Rattle.kinds.specs.Named.{kind_meant}
 use Rattle.records.specs.declared.Entry.{Entry}
 use Rattle.records.specs.declared.Record.{Record}
 use Rattle.records.specs.Places.{IsEntry}
-use Rattle.judging.specs.Tests.{fields_meant, Tests, match_children_rule, IsMatch, ShapeTest, pattern_of, PatternTest, TypeTest}
-use Rattle.judging.proofs.Testing.{both_test}
+use Rattle.judging.specs.Tests.{fields_meant, Tests, match_children_rule, IsMatch, pattern_of, PatternTest, TypeTest}
 
--- The type rule of a match: that of its children, then its pattern.
-typed_match : (types : Table) (Γ : Env) (f : Fields) (x y z k : ℕ) → IsMatch k
-    → typed types Γ (kind_of k) f x y z ≡ match_children_rule types f.type x y z ++ pattern_of types Γ (kind_of k) f (part_a types x)
-unfolding kind_of numbered listed
-typed_match types Γ f x y z k m =
-    in_range (λ k. typed types Γ (kind_of k) f x y z ≡ match_children_rule types f.type x y z ++ pattern_of types Γ (kind_of k) f (part_a types x)) 9 6
-    (refl & refl & refl & refl & refl & refl & tt) k m.low m.high
+-- A kind that is none of the first eight.
+pub a_match : (k : Kind) → (k ≡ Number → ⊥) → (k ≡ Variable → ⊥) → (k ≡ Function → ⊥) → (k ≡ Application → ⊥) → (k ≡ Fix → ⊥) → (k ≡ Lift → ⊥)
+    → (k ≡ Quote → ⊥) → (k ≡ Splice → ⊥) → IsMatch k
+a_match Number n₁ n₂ n₃ n₄ n₅ n₆ n₇ n₈ = absurd (n₁ refl)
+a_match Variable n₁ n₂ n₃ n₄ n₅ n₆ n₇ n₈ = absurd (n₂ refl)
+a_match Function n₁ n₂ n₃ n₄ n₅ n₆ n₇ n₈ = absurd (n₃ refl)
+a_match Application n₁ n₂ n₃ n₄ n₅ n₆ n₇ n₈ = absurd (n₄ refl)
+a_match Fix n₁ n₂ n₃ n₄ n₅ n₆ n₇ n₈ = absurd (n₅ refl)
+a_match Lift n₁ n₂ n₃ n₄ n₅ n₆ n₇ n₈ = absurd (n₆ refl)
+a_match Quote n₁ n₂ n₃ n₄ n₅ n₆ n₇ n₈ = absurd (n₇ refl)
+a_match Splice n₁ n₂ n₃ n₄ n₅ n₆ n₇ n₈ = absurd (n₈ refl)
+a_match MatchNumber n₁ n₂ n₃ n₄ n₅ n₆ n₇ n₈ = record { form = _; is = refl }
+a_match MatchVariable n₁ n₂ n₃ n₄ n₅ n₆ n₇ n₈ = record { form = _; is = refl }
+a_match MatchApplication n₁ n₂ n₃ n₄ n₅ n₆ n₇ n₈ = record { form = _; is = refl }
+a_match MatchLift n₁ n₂ n₃ n₄ n₅ n₆ n₇ n₈ = record { form = _; is = refl }
+a_match MatchFunction n₁ n₂ n₃ n₄ n₅ n₆ n₇ n₈ = record { form = _; is = refl }
+a_match MatchFix n₁ n₂ n₃ n₄ n₅ n₆ n₇ n₈ = record { form = _; is = refl }
 
-module _ (types : Table) (ty kind : ℕ) (r : Record) where
-  -- The test of what a kind asks of C, and of its type rule, is that of each record of the kind.
-  module _ (C : ℕ) (q : Bool) where
-    pub kind_pattern : (k : Kind) → kind_of kind ≡ k → ((Γ : Env) → (binder Γ r.a).type ≡ ty → Tests (pattern_of types Γ k (fields_meant r) C) q) → PatternTest types ty kind r C q
-    kind_pattern k e h = record { is = λ Γ g. rw e (h Γ g).is }
+-- One rule after another.
+holds_both : (r s : Rule) → holds r && holds s ≡ holds (r ++ s)
+holds_both [] s = refl
+holds_both (c ∷ r) s = and_assoc (met c) (holds r) (holds s) ∙ ap (λ b. met c && b) (holds_both r s)
 
-    pub shape_pattern : (s : Shape) → kind_of kind ≡ ternary₃ (match (match_shape s)) → ShapeTest types s r C q → PatternTest types ty kind r C q
-    shape_pattern s e h = kind_pattern (ternary₃ (match (match_shape s))) e (λ Γ g. record { is = h.is })
+typed_match : (types : Table) (Γ : Env) (f : Fields) (x y z : ℕ) (kind : Kind) → IsMatch kind
+    → typed types Γ (kind_meant kind) f x y z ≡ match_children_rule types f.type x y z ++ pattern_of types Γ (kind_meant kind) f (part_a types x)
+typed_match types Γ f x y z kind m = rw m.is
 
-  module _ (x y z : ℕ) (q : Bool) where
-    pub kind_type : (k : Kind) → kind_of kind ≡ k → ((Γ : Env) → (binder Γ r.a).type ≡ ty → Tests (typed types Γ k (fields_meant r) x y z) q) → TypeTest types ty kind r x y z q
-    kind_type k e h = record { is = λ Γ g. rw e (h Γ g).is }
-
-    pub match_type : (e : Entry) (s t : Bool) → IsMatch kind → IsEntry types x e → Tests (match_children_rule types r.ty x y z) s
-        → PatternTest types ty kind r e.a t → q ≡ s && t → TypeTest types ty kind r x y z q
-    match_type e s t m i hs ht hq = record {
-      is = λ Γ g.
-          let p = pattern_of types Γ (kind_of kind) (fields_meant r) in
-          let u : Tests (p (part_a types x)) t = record { is = ht.is Γ g ∙ ap (λ C. holds (p C)) (ap (λ v. v.a) i.is) } in
-          (both_test (match_children_rule types r.ty x y z) _ s t q hs u hq).is ∙ sym (ap holds (typed_match types Γ (fields_meant r) x y z kind m));
-    }
+pub match_type : (types : Table) (ty : ℕ) (kind : Kind) (r : Record) (x y z : ℕ) (e : Entry) (s t : Bool) → IsMatch kind → IsEntry types x e
+    → Tests (match_children_rule types r.ty x y z) s → PatternTest types ty kind r e.a t → TypeTest types ty kind r x y z (s && t)
+match_type types ty kind r x y z e s t m i hs ht = record {
+  is = λ Γ g.
+      let p = pattern_of types Γ (kind_meant kind) (fields_meant r) in
+      let u : t ≡ holds (p (part_a types x)) = ht.is Γ g ∙ ap (λ C. holds (p C)) (ap (λ v. v.a) i.is) in
+      ap₂ ◌&&◌ hs.is u ∙ holds_both (match_children_rule types r.ty x y z) (p (part_a types x)) ∙ sym (ap holds (typed_match types Γ (fields_meant r) x y z kind m));
+}

@@ -1,15 +1,22 @@
 -- What the parts of the judging of a record answer: a truth value q that is the test of a rule. The code knows of the binders Γ no more
 -- than how many they are and which one the record's index names, so what it says of them holds for every such Γ.
-use Rattle.std.specs.Prelude.{ℕ, ◌≤◌, ◌<◌, ◌≡◌, [], ◌∷◌, Bool, length}
-use Rattle.rules.specs.Kinds.{Shape, match, Kind, leaf₀, unary₁, binary₂, ternary₃, kind_of}
+use Rattle.std.specs.Prelude.{ℕ, ◌≤◌, ◌≡◌, [], ◌∷◌, Bool, length, eqb, Result, Ok, Err}
+use Rattle.std.proofs.Math.Option.{Option, none, some}
+use Rattle.rules.specs.Lists.{pick}
+use Rattle.rules.specs.Kinds.{Shape, Match, match, leaf₀, unary₁, binary₂, ternary₃}
+use Rattle.rules.specs.Kinds.{Kind as MeantKind}
 use Rattle.rules.specs.Terms.{Fields}
 use Rattle.rules.specs.Types.{Table, Entry as MeantEntry, entry, Code, part_a}
 use Rattle.rules.specs.Conditions.{equal, same, Rule, holds}
 use Rattle.rules.specs.Typing.{Binder as MeantBinder, Env, binder, bind, bound, placed, typed, shape, pattern}
+use Rattle.rules.specs.Refusals.{Refusal, bad_index, bad_type}
 use Rattle.rules.specs.Check.{judged}
+use Rattle.kinds.specs.declared.names.Kind.{Kind}
+use Rattle.kinds.specs.Named.{kind_meant}
 use Rattle.records.specs.declared.Record.{Record}
 use Rattle.records.specs.Meant.{record_meant}
-use Rattle.refusals.specs.Tells.{Tells, verdict_at}
+use Rattle.refusals.specs.declared.reasons.Reason.{Reason}
+use Rattle.refusals.specs.Reports.{reason_number}
 use Rattle.judging.specs.declared.Binder.{Binder}
 
 -- The binder that the code's struct stands for.
@@ -35,34 +42,43 @@ EntryTest types n e q = Tests (same (entry types n) e ∷ []) q
 abbrev pub match_children_rule : Table → ℕ → ℕ → ℕ → ℕ → Rule
 match_children_rule types ty x y z = equal y ty ∷ equal z ty ∷ same (entry types x) (Code (part_a types x)) ∷ []
 
--- The number is that of a match.
-pub record IsMatch (kind : ℕ) : Type 0 where
-  pub low : 9 ≤ kind
-  pub high : kind < 15
+-- The kind is a match.
+pub record IsMatch (kind : Kind) : Type 0 where
+  pub form : Match
+  pub is : kind_meant kind ≡ ternary₃ (match form)
 
 -- What a match asks of C by its shape, and by its kind. A kind that is no match has no pattern.
 pub record ShapeTest (types : Table) (s : Shape) (r : Record) (C : ℕ) (q : Bool) : Type 0 where
   pub is : q ≡ holds (shape types s (fields_meant r) C)
 
-abbrev pub pattern_of : Table → Env → Kind → Fields → ℕ → Rule
+abbrev pub pattern_of : Table → Env → MeantKind → Fields → ℕ → Rule
 pattern_of types Γ (leaf₀ k) f C = []
 pattern_of types Γ (unary₁ k) f C = []
 pattern_of types Γ (binary₂ k) f C = []
 pattern_of types Γ (ternary₃ (match k)) f C = pattern types Γ k f C
 
-pub record PatternTest (types : Table) (ty kind : ℕ) (r : Record) (C : ℕ) (q : Bool) : Type 0 where
-  pub is : (Γ : Env) → (binder Γ r.a).type ≡ ty → q ≡ holds (pattern_of types Γ (kind_of kind) (fields_meant r) C)
+pub record PatternTest (types : Table) (ty : ℕ) (kind : Kind) (r : Record) (C : ℕ) (q : Bool) : Type 0 where
+  pub is : (Γ : Env) → (binder Γ r.a).type ≡ ty → q ≡ holds (pattern_of types Γ (kind_meant kind) (fields_meant r) C)
 
 -- Rules 10, 11 and 12 of a record of a kind: with this a, of any fields, and with the fields of r.
-pub record IndexTest (kind a depth : ℕ) (q : Bool) : Type 0 where
-  pub is : (Γ : Env) (f : Fields) → f.a ≡ a → length Γ ≡ depth → q ≡ holds (bound Γ (kind_of kind) f)
+pub record IndexTest (kind : Kind) (a depth : ℕ) (q : Bool) : Type 0 where
+  pub is : (Γ : Env) (f : Fields) → f.a ≡ a → length Γ ≡ depth → q ≡ holds (bound Γ (kind_meant kind) f)
 
-pub record LevelTest (kind l level : ℕ) (q : Bool) : Type 0 where
-  pub is : (Γ : Env) (f : Fields) → (binder Γ f.a).level ≡ level → q ≡ holds (placed Γ l (kind_of kind) f)
+pub record LevelTest (kind : Kind) (l level : ℕ) (q : Bool) : Type 0 where
+  pub is : (Γ : Env) (f : Fields) → (binder Γ f.a).level ≡ level → q ≡ holds (placed Γ l (kind_meant kind) f)
 
-pub record TypeTest (types : Table) (ty kind : ℕ) (r : Record) (x y z : ℕ) (q : Bool) : Type 0 where
-  pub is : (Γ : Env) → (binder Γ r.a).type ≡ ty → q ≡ holds (typed types Γ (kind_of kind) (fields_meant r) x y z)
+pub record TypeTest (types : Table) (ty : ℕ) (kind : Kind) (r : Record) (x y z : ℕ) (q : Bool) : Type 0 where
+  pub is : (Γ : Env) → (binder Γ r.a).type ≡ ty → q ≡ holds (typed types Γ (kind_meant kind) (fields_meant r) x y z)
+
+-- The refusal by a number, at a place; by 0 nothing is refused.
+abbrev pub refusal_at : ℕ → ℕ → Option Refusal
+refusal_at number place = pick (eqb number 0) none (some (record { number = number; place = place }))
 
 -- q is the number of the refusal of a record of a kind with the fields of r, whatever its place n, or 0.
-pub record Judges (types : Table) (Γ : Env) (l kind : ℕ) (r : Record) (x y z q : ℕ) : Type 0 where
-  pub tells : (n : ℕ) → Tells (verdict_at q n) (judged types Γ l n (kind_of kind) (fields_meant r) x y z)
+pub record Judges (types : Table) (Γ : Env) (l : ℕ) (kind : Kind) (r : Record) (x y z q : ℕ) : Type 0 where
+  pub tells : (n : ℕ) → refusal_at q n ≡ judged types Γ l n (kind_meant kind) (fields_meant r) x y z
+
+-- What a number says that `judge` answers: where it is 0 nothing is refused, and else the reason of that number.
+abbrev pub Names : ℕ → Result Unit Reason → Type 0
+Names number (Ok x) = number ≡ 0
+Names number (Err reason) = (number ≡ 0 → ⊥) × (bad_index ≤ number → number ≤ bad_type → reason_number reason ≡ number)

@@ -1,7 +1,5 @@
 -- The table of the kinds' numbers, read from a number.
 use Prim.Native.Nat.{ℕ, ◌≤◌}
-use native.Mathlib.Omega.{arith}
-use native.Mathlib.Decide.{dec_lt}
 use mathlib.Core.Path.{◌≡◌, sym}
 use Rattle.rules.specs.Kinds.{Kind, leaf₀, number, kind_number, kind_of}
 use Rattle.rules.proofs.KindTable.{kind_back}
@@ -11,11 +9,5 @@ pub named : (k : Kind) (n : ℕ) → n ≡ kind_number k → k ≡ kind_of n
 named k n e = rw e (sym (kind_back k))
 
 -- Any other number stands for kind 1.
-pub otherwise : (n : ℕ) → (2 ≤ n → n ≤ 14 → ⊥) → leaf₀ number ≡ kind_of n
-otherwise n h = elim (dec_lt 1 n) [
-  | yes l ↦ sym (unknown_kind n (λ p q. h (omega arith) (omega arith)))
-  | no l ↦ elim (dec_lt 0 n) [
-    | yes m ↦ named (leaf₀ number) n (omega arith)
-    | no m ↦ sym (unknown_kind n (λ p q. omega arith))
-  ]
-]
+pub otherwise : (n : ℕ) → (1 ≤ n → n ≤ 14 → ⊥) → leaf₀ number ≡ kind_of n
+otherwise n h = sym (unknown_kind n h)

@@ -41,19 +41,7 @@ impl Kind {
         ensures { kind_meant result ≡ kind_of number }
     {
         match number {
-            2 => Kind::Variable,
-            3 => Kind::Function,
-            4 => Kind::Application,
-            5 => Kind::Fix,
-            6 => Kind::Lift,
-            7 => Kind::Quote,
-            8 => Kind::Splice,
-            9 => Kind::MatchNumber,
-            10 => Kind::MatchVariable,
-            11 => Kind::MatchApplication,
-            12 => Kind::MatchLift,
-            13 => Kind::MatchFunction,
-            14 => Kind::MatchFix,
+            1..=14 => Kind::known(number),
             _ => Kind::Number,
         }
     }

@@ -2,7 +2,9 @@
 #![tactic(auto)]
 
 ghost use Rattle.rules.specs.Run.{buffers_refusal};
-ghost use Rattle.refusals.specs.Tells.{Tells};
+ghost use Rattle.refusals.specs.Reports.{Reports};
+
+use refusals::{Reason, Refusal};
 
 // The bytes that a call needs of its output and its work buffer.
 pub const OUTPUT: usize = 34308;
@@ -10,14 +12,21 @@ pub const OUTPUT: usize = 34308;
 pub const WORK: usize = 65536;
 
 // The refusal of buffers of these lengths, or none where both are long enough.
-pub fn buffers_refusal(output: usize, work: usize) -> refusals::Verdict
-    ensures { Tells result (buffers_refusal output work) }
+#[tactic(auto, using(crate::proofs::Lengths::lengths))]
+pub fn buffers_refusal(output: usize, work: usize) -> Result<(), Refusal>
+    ensures { Reports result (buffers_refusal output work) }
 {
     if output < OUTPUT {
-        return refusals::refuse(refusals::OUTPUT_SHORT, 0);
+        return Err(Refusal {
+            reason: Reason::OutputShort,
+            place: 0,
+        });
     }
     if work < WORK {
-        return refusals::refuse(refusals::WORK_SHORT, 0);
+        return Err(Refusal {
+            reason: Reason::WorkShort,
+            place: 0,
+        });
     }
-    refusals::no_refusal()
+    Ok(())
 }

@@ -1,27 +1,25 @@
 -- The pass over the links: where it stands, how it counts, and that a record can be judged where it comes to it. `counting` for search.
 use Prim.Native.Nat.{ℕ, zero, suc, ◌+◌, ◌*◌, ◌-◌, ◌≤◌, ◌<◌}
 use native.Mathlib.Omega.{arith}
-use mathlib.Core.Bool.{Bool, false, not}
+use mathlib.Core.Bool.{Bool, true}
 use mathlib.Core.List.{List}
-use mathlib.Core.Path.{◌≡◌, refl, ap, ap₂, ◌∙◌}
+use mathlib.Core.Path.{◌≡◌, refl, sym, ap, ap₂, ◌∙◌}
 use lib.Dec.{eqb}
 use lib.ListN.{length, get_or, replicate, length-replicate}
 use Rattle.rules.specs.Lists.{total}
 use Rattle.rules.specs.Format.{Record, most_records}
 use Rattle.rules.specs.Links.{first_of, next_of}
 use Rattle.rules.specs.Conditions.{holds}
-use Rattle.rules.specs.Refusals.{bad_link}
 use Rattle.rules.specs.Check.{is, naming, links_rule}
 use Rattle.rules.proofs.General.{picked}
-use Rattle.rules.proofs.Tests.{holds_unless}
+use Rattle.rules.proofs.Tests.{holding}
 use Rattle.rules.proofs.Sums.{is_other, total_split, total_none}
 use Rattle.rules.proofs.Tree.{first_le, first_above, next_le, next_above}
 use Rattle.records.specs.declared.Record.{Record as Read}
 use Rattle.records.specs.Places.{IsRecord}
 use Rattle.records.proofs.Placing.{within_next}
-use Rattle.refusals.proofs.Laws.{kept_by_test}
 use Rattle.links.specs.Limits.{Limited}
-use Rattle.links.specs.Counters.{bumped, CanBump, Uncounted, CanJudge}
+use Rattle.links.specs.Counters.{bumped, CanBump, CanJudge}
 use Rattle.links.proofs.Bumping.{bumped_length, bumped_at}
 
 -- How many links of record n name record m, and how many of the first n records.
@@ -69,30 +67,27 @@ naming_most : (rs : List Record) (n m : ℕ) → naming_among rs n m ≤ 2 * n
 unfolding naming_among
 naming_most rs n m = total_most (links_to rs m) (λ k. omega (arith, is_most (first_of rs k) m, is_most (next_of rs k) m)) 1 n
 
--- Counters of 0, as many as there can be records.
+-- The pass starts with counters of 0, as many as there can be records.
 zero_each : (n k : ℕ) → get_or {A = ℕ} (replicate n 0) k 0 ≡ 0
 zero_each zero k = refl
 zero_each (suc n) zero = refl
 zero_each (suc n) (suc k) = zero_each n k
 
-pub uncounted : (rs : List Record) (count : ℕ) → Limited rs count → Uncounted rs count (replicate most_records 0)
-uncounted rs count h = record { limited = h; room = rw (length-replicate {A = ℕ} most_records 0) h.most; zero = zero_each most_records }
+pub count_starts : (rs : List Record) (count : ℕ) → Limited rs count → Counting rs count 0 (replicate most_records 0)
+unfolding naming_among total
+count_starts rs count h = record { limited = h; most = omega arith; room = rw (length-replicate {A = ℕ} most_records 0) h.most; at = zero_each most_records }
 
 -- r, record n as it was read, holds what its links name.
 pub record Names (rs : List Record) (n : ℕ) (r : Read) : Type 0 where
   pub first : r.first ≡ first_of rs n
   pub next : r.next ≡ next_of rs n
 
-pub names_told : (rs : List Record) (n : ℕ) (r : Read) (b : Bool) → b ≡ holds (links_rule rs n) → not b ≡ false → IsRecord rs n r → Names rs n r
+pub names_told : (rs : List Record) (n : ℕ) (r : Read) (b : Bool) → b ≡ holds (links_rule rs n) → b ≡ true → IsRecord rs n r → Names rs n r
 names_told rs n r b told kept e =
-    let h = holds_unless (links_rule rs n) bad_link n (kept_by_test (links_rule rs n) bad_link n b told kept) in
+    let h = holding (links_rule rs n) (rw (sym told ∙ kept) tt) in
     record { first = ap (λ x. x.first) e.is ∙ h.0; next = ap (λ x. x.next) e.is ∙ h.1.0 }
 
--- The pass: its start, and the next record, which can be judged and whose two links are counted.
-pub count_starts : (rs : List Record) (count : ℕ) (counts : List ℕ) → Uncounted rs count counts → Counting rs count 0 counts
-unfolding naming_among total
-count_starts rs count counts h = record { limited = h.limited; most = omega arith; room = h.room; at = h.zero }
-
+-- The next record of the pass, which can be judged and whose two links are counted.
 module _ (rs : List Record) (count n : ℕ) (counts : List ℕ) (c : Counting rs count n counts) (l : n < count) where
   pub can_judge : CanJudge rs count counts (n + 1)
   can_judge = let p : n + 1 - 1 ≡ n = omega arith in record {
@@ -129,4 +124,4 @@ module _ (rs : List Record) (count n : ℕ) (counts : List ℕ) (c : Counting rs
         at = λ k. ap (λ x. get_or x k 0) g ∙ bumped_at counts₁ r.next next_counts.room k ∙ (omega (arith, at_first k, ap (λ x. is x (k + 1)) d.next, one_more rs n (k + 1)));
       }
 
-pub ruleset counting = (uncounted, count_starts, can_judge, names_told, first_counts, next_counts, count_goes_on)
+pub ruleset counting = (can_judge, names_told, first_counts, next_counts, count_goes_on)

@@ -1,6 +1,4 @@
 -- The laws by which the functions of the crate are proved, and what callers know of records that it passes.
 pub mod Bumping
-pub mod Judging
 pub mod Counting
 pub mod Passed
-pub mod Chaining

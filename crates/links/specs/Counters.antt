@@ -3,7 +3,7 @@ use Rattle.std.specs.Prelude.{ℕ, ◌+◌, ◌-◌, ◌≤◌, ◌<◌, List, �
 use Rattle.rules.specs.Lists.{pick}
 use Rattle.rules.specs.Format.{Record}
 use Rattle.rules.specs.Check.{naming}
-use Rattle.links.specs.Limits.{Limited, Among}
+use Rattle.links.specs.Limits.{Among}
 
 -- The counters when one more link names record m; 0 is no record.
 unfoldable pub bumped : List ℕ → ℕ → List ℕ
@@ -13,12 +13,6 @@ bumped counts m = pick (eqb m 0) counts (set counts (m - 1) (get_or counts (m - 
 pub record CanBump (counts : List ℕ) (m : ℕ) : Type 0 where
   pub room : m ≤ length counts
   pub small : get_or counts (m - 1) 0 < 65535
-
--- Each of `count` records has a counter, and the counters are 0.
-pub record Uncounted (rs : List Record) (count : ℕ) (counts : List ℕ) : Type 0 where
-  pub limited : Limited rs count
-  pub room : count ≤ length counts
-  pub zero : (k : ℕ) → get_or counts k 0 ≡ 0
 
 -- There is a record n among `count` records, and the links that name it are counted.
 pub record CanJudge (rs : List Record) (count : ℕ) (counts : List ℕ) (n : ℕ) : Type 0 where

@@ -4,11 +4,11 @@ ghost use Rattle.rules.specs.Conditions.{holds};
 ghost use Rattle.rules.specs.Refusals.{bad_children, lowest};
 ghost use Rattle.rules.specs.Check.{children_rule};
 ghost use Rattle.records.specs.View.{records_in};
-ghost use Rattle.refusals.specs.Tells.{Tells};
+ghost use Rattle.refusals.specs.Reports.{Reports};
 ghost use Rattle.links.specs.Chains.{GoodLinks, Parent};
 
-use kinds::both;
-use refusals::Verdict;
+use kinds::Kind;
+use refusals::{Reason, Refusal, lowest_refusal};
 
 // Whether record n has as many children as its kind asks. No more of the chain is read than that.
 fn children_ok(records: &[u8], n: u16) -> bool
@@ -16,34 +16,34 @@ fn children_ok(records: &[u8], n: u16) -> bool
     ensures { result ≡ holds (children_rule (records_in records.now) n) }
 {
     let r = records::record_no(records, n);
-    let count = kinds::children(r.kind);
+    let count = Kind::of(r.kind).children();
     let c = r.first;
     if count == 0 {
         return c == 0;
     }
     let s = records::next_of(records, c);
     if count == 1 {
-        return both(0 < c, s == 0);
+        return (0 < c) & (s == 0);
     }
     let e = records::next_of(records, s);
     if count == 2 {
-        return both(0 < c, both(0 < s, e == 0));
+        return (0 < c) & (0 < s) & (e == 0);
     }
     let x = records::next_of(records, e);
-    both(0 < c, both(0 < s, both(0 < e, x == 0)))
+    (0 < c) & (0 < s) & (0 < e) & (x == 0)
 }
 
 // Refusal 9: the lowest record with a wrong number of children.
-pub fn children_refusal(records: &[u8], count: u16) -> Verdict
+pub fn children_refusal(records: &[u8], count: u16) -> Result<(), Refusal>
     requires { GoodLinks (records_in records.now) count }
-    ensures { Tells result (lowest (children_rule (records_in records.now)) bad_children 1 count) }
+    ensures { Reports result (lowest (children_rule (records_in records.now)) bad_children 1 count) }
 {
-    let mut n: u16 = 0;
-    while n < count {
-        n += 1;
-        if !children_ok(records, n) {
-            return refusals::refuse(refusals::BAD_CHILDREN, n);
-        }
-    }
-    refusals::no_refusal()
+    lowest_refusal(
+        Reason::BadChildren,
+        count,
+        |n: u16| -> bool
+            requires { Parent (records_in records.now) n }
+            ensures { result ≡ holds (children_rule (records_in records.entry.now) n) }
+        { children_ok(records, n) },
+    )
 }

@@ -7,21 +7,17 @@ ghost use Rattle.rules.specs.Links.{named};
 ghost use Rattle.rules.specs.Refusals.{lowest, bad_link};
 ghost use Rattle.rules.specs.Check.{links_rule};
 ghost use Rattle.records.specs.View.{records_in};
-ghost use Rattle.refusals.specs.Tells.{Tells};
+ghost use Rattle.refusals.specs.Reports.{Reports};
 ghost use Rattle.links.specs.Limits.{Limited};
-ghost use Rattle.links.specs.Counters.{bumped, CanBump, Uncounted, CanJudge};
+ghost use Rattle.links.specs.Counters.{bumped, CanBump, CanJudge};
 
-use kinds::both;
-use refusals::Verdict;
+use refusals::{Reason, Refusal};
 
 // Whether a link of record `n` is good among `count` records: it is 0, or names a record above n.
 fn link_ok(count: u16, n: u16, link: u16) -> bool
     ensures { result ≡ eqb link (named count n link) }
 {
-    if link == 0 {
-        return true;
-    }
-    both(n < link, link <= count)
+    link == 0 || (n < link) & (link <= count)
 }
 
 // Whether record `n` keeps the rule of links. Any next of the root is bad.
@@ -36,11 +32,7 @@ fn links_ok(records: &[u8], count: u16, counts: &[u16], n: u16) -> bool
     if n == 1 {
         return r.next == 0;
     }
-    if !link_ok(count, n, r.next) {
-        return false;
-    }
-    let i = (n - 1) as usize;
-    counts[i] == 1
+    link_ok(count, n, r.next) && counts[(n - 1) as usize] == 1
 }
 
 // Counts a link that names record `m`, and does nothing where `m` is 0.
@@ -49,34 +41,27 @@ fn bump(counts: &mut [u16], m: u16)
     ensures { counts.new ≡ bumped counts.old m }
 {
     if m != 0 {
-        let i = (m - 1) as usize;
-        counts[i] = counts[i] + 1;
+        counts[(m - 1) as usize] += 1;
     }
 }
 
-// The lowest record that breaks the rule of links, where the counters are 0. The links of each record that keeps it are counted.
-fn lowest_bad(records: &[u8], count: u16, counts: &mut [u16]) -> Verdict
-    requires { Uncounted (records_in records.now) count counts.old }
-    ensures { Tells result (lowest (links_rule (records_in records.now)) bad_link 1 count) }
-{
-    let mut n: u16 = 0;
-    while n < count {
-        n += 1;
-        if !links_ok(records, count, counts, n) {
-            return refusals::refuse(refusals::BAD_LINK, n);
-        }
-        let r = records::record_no(records, n);
-        bump(counts, r.first);
-        bump(counts, r.next);
-    }
-    refusals::no_refusal()
-}
-
-// Refusal 8 of `count` records.
-pub fn links_refusal(records: &[u8], count: u16) -> Verdict
+// Refusal 8: the lowest record that breaks the rule of links. The links of each record that keeps it are counted.
+pub fn links_refusal(records: &[u8], count: u16) -> Result<(), Refusal>
     requires { Limited (records_in records.now) count }
-    ensures { Tells result (lowest (links_rule (records_in records.now)) bad_link 1 count) }
+    ensures { Reports result (lowest (links_rule (records_in records.now)) bad_link 1 count) }
 {
     let mut counts = [0u16; kinds::MOST_RECORDS as usize];
-    lowest_bad(records, count, &mut counts)
+    for i in 0..count {
+        let n = i + 1;
+        if !links_ok(records, count, &counts, n) {
+            return Err(Refusal {
+                reason: Reason::BadLink,
+                place: n,
+            });
+        }
+        let r = records::record_no(records, n);
+        bump(&mut counts, r.first);
+        bump(&mut counts, r.next);
+    }
+    Ok(())
 }

@@ -1,24 +1,29 @@
 -- Parts that are written one after another are one part: for the proofs of the code. Assumes nothing.
 use Prim.Native.Nat.{ℕ, ◌+◌, ◌≤◌}
 use native.Mathlib.Nat.{add-zero}
-use native.Mathlib.Numerals.{add-one}
 use native.Mathlib.Omega.{arith}
 use mathlib.Core.Path.{◌≡◌, refl, sym, ap, ap₂, ◌∙◌}
-use mathlib.Core.List.{List, [], ◌∷◌, ◌++◌}
-use lib.ListN.{length, set, take-append-drop, length-append}
-use lib.Seq.{set_split}
+use mathlib.Core.List.{List, [], ◌++◌}
+use lib.ListN.{length, take, take-append-drop, length-append}
+use lib.Seq.{drop-drop}
+use borrow.Rule.Slice.PartMut.{put_mid}
 use Rattle.records.specs.Overwritten.{overwritten}
 use Rattle.records.proofs.Overwriting.{overwritten_length, overwritten_twice}
 use Rattle.listing_text.specs.Parts.{RoomForPart, WroteText}
 
--- Nothing, and one byte.
+-- Nothing.
 pub nothing_wrote : (s : List ℕ) (at : ℕ) → at ≤ length s → WroteText s at [] s at
 unfolding overwritten
 nothing_wrote s at h = record { enough = omega arith; bytes = rw (add-zero at) (sym (take-append-drop at s)); ends = omega arith }
 
-pub byte_wrote : (s : List ℕ) (at b : ℕ) → RoomForPart s at (b ∷ []) → WroteText s at (b ∷ []) (set s at b) (at + 1)
+-- Bytes that are copied into the place of as many others.
+pub bytes_wrote : (s : List ℕ) (at : ℕ) (vs ys : List ℕ) (k : ℕ) → RoomForPart s at vs → ys ≡ vs → k ≡ length vs → WroteText s at vs (put_mid at k s ys) (at + length vs)
 unfolding overwritten
-byte_wrote s at b h = record { enough = h.enough; bytes = rw (add-one at) (set_split s at b (omega (arith, h.enough))); ends = refl }
+bytes_wrote s at vs ys k h e l = record {
+  enough = h.enough;
+  bytes = ap₂ (λ n zs. put_mid at n s zs) l e ∙ ap (λ x. take at s ++ (vs ++ x)) (drop-drop (length vs) at s);
+  ends = refl;
+}
 
 -- A part, and another behind it.
 pub room_first : (s : List ℕ) (at : ℕ) (vs ws : List ℕ) → RoomForPart s at (vs ++ ws) → RoomForPart s at vs

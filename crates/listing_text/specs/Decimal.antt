@@ -1,14 +1,9 @@
 -- A number in decimal: its ASCII digits, the highest first, with no leading zero; that of 0 is a single one.
-use Rattle.std.specs.Prelude.{ℕ, zero, suc, ◌+◌, ◌/◌, ◌%◌, ◌<◌, ◌≡◌, true, false, List, [], ◌∷◌, ◌++◌, ltb}
+use Rattle.std.specs.Prelude.{ℕ, zero, suc, ◌+◌, ◌/◌, ◌%◌, true, false, List, [], ◌∷◌, ◌++◌, ltb}
 
 -- The digit of a number below 10: that of 0 is 48.
 abbrev pub digit : ℕ → ℕ
 digit n = 48 + n
-
--- b is the digit of n, which is below 10.
-pub record IsDigit (n b : ℕ) : Type 0 where
-  pub small : n < 10
-  pub is : b ≡ digit n
 
 -- The digits of n, where it has no more than `most`: those of its tens, then that of its ones.
 unfoldable pub digits : ℕ → ℕ → List ℕ

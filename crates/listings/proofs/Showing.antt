@@ -18,9 +18,9 @@ use Rattle.listings.specs.Lent.{Lent}
 use Rattle.listings.proofs.Runs.{Listed, run_refused, run_listed}
 
 module _ (input text text' : List ℕ) (n : ℕ) where
-  pub fuel_short : length input < 4 → Prints text (refused_text program_short 0) text' n → Prints text (listing_of input) text' n
+  pub fuel_short : (number : ℕ) → number ≡ program_short → length input < 4 → Prints text (refused_text number 0) text' n → Prints text (listing_of input) text' n
   unfolding listing_of
-  fuel_short l h = rw (lt-ltb (length input) 4 l, listing_of) h
+  fuel_short number e l h = rw (lt-ltb (length input) 4 l, listing_of) (rw e at h)
 
 -- The program is what follows the fuel.
 abbrev rest : List ℕ → List ℕ

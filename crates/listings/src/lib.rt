@@ -5,6 +5,8 @@ ghost use Rattle.listing_text.specs.Buffers.{Prints};
 ghost use Rattle.listings.specs.Listing.{listing_of};
 ghost use Rattle.listings.specs.Lent.{Lent};
 
+use refusals::Reason;
+
 // The longest text: 64 bytes for each of 2,049 lines.
 pub const TEXT: usize = 131136;
 
@@ -14,7 +16,7 @@ fn listing_by(input: &[u8], output: &mut [u8], work: &mut [u8], text: &mut [u8])
     ensures { Prints text.old (listing_of input.now) text.new result }
 {
     if input.len() < 4 {
-        return listing_text::refused_text(refusals::PROGRAM_SHORT as u32, 0, text);
+        return listing_text::refused_text(u32::from(Reason::ProgramShort.number()), 0, text);
     }
     let fuel = records::get32(input, 0);
     let answer = engine::run(&input[4..], fuel, output, work);

@@ -5,19 +5,20 @@ use mathlib.Core.List.{List}
 use mathlib.Core.Bool.{Bool, true, false}
 use mathlib.Core.Logic.{◌≢◌}
 use mathlib.Core.Path.{◌≡◌}
-use lib.ListN.{length}
-use Rattle.rules.specs.Kinds.{child_count, kind_of}
+use Rattle.rules.specs.Kinds.{child_count}
 use Rattle.rules.specs.Terms.{Term}
 use Rattle.rules.specs.Types.{Table}
 use Rattle.rules.specs.Contractions.{contracts}
 use Rattle.rules.specs.Format.{Record}
+use Rattle.kinds.specs.declared.names.Kind.{Kind as NamedKind}
+use Rattle.kinds.specs.Named.{kind_meant}
 use Rattle.contexts.specs.Contexts.{outer_level, Context}
 use Rattle.zipper.specs.declared.focus.Focus.{Focus}
 use Rattle.navigation.specs.declared.ascending.Turn.TheVariants.{Next, Value, Redex, Match}
-use Rattle.terms.specs.Measuring.{KindIs}
+use Rattle.terms.specs.Measuring.{HasKind, KindIs}
 use Rattle.zipper.specs.Focusing.{CanClose, Closes}
 use Rattle.navigation.specs.Ascending.{Rests, CanTellNext, TellsNext, sought, CanAscend, Ascends}
-use Rattle.zipper.proofs.Rows.{frame_in}
+use Rattle.zipper.proofs.Rows.{frame_known}
 use Rattle.navigation.proofs.Turns.{RestsIn, Framed, framed, outermost, frame_held, frame_tells, frame_closes, hole_goes_on, match_stays, closed_outward, closed_onward, closed_redex, closed_done}
 
 -- The focus is done at each turn, and the right side only gets shorter.
@@ -40,13 +41,13 @@ module _ (rs₀ : List Record) (z₀ : Focus) (l₀ : ℕ) (rs : List Record) (z
     one : Framed i.some.types rs z l i.some.whole
     one = each i.some.types i.some.context i.some.focus i.some.whole i.some.rests
 
-    pub climb_in : z.top < length rs
-    climb_in = frame_in rs z (frame_held one)
+    pub climb_known : HasKind rs z.top
+    climb_known = frame_known rs z (frame_held one)
 
     pub climb_closes : CanClose rs z
     climb_closes = frame_closes one
 
-    module _ (k lv : ℕ) (kd : KindIs rs z.top k) (v : lv ≡ outer_level (kind_of k) l) where
+    module _ (k : NamedKind) (lv : ℕ) (kd : KindIs rs z.top k) (v : lv ≡ outer_level (kind_meant k) l) where
       pub climb_tells : CanTellNext rs z lv
       climb_tells = frame_tells one k lv kd v
 
@@ -58,15 +59,15 @@ module _ (rs₀ : List Record) (z₀ : Focus) (l₀ : ℕ) (rs : List Record) (z
         climb_next e = record { does = λ types C t whole h. hole_goes_on (each types C t whole h) k lv kd v b tn e z₀.r i.onward }
 
         module _ (e : b ≡ false) where
-          pub climb_match : (c : ℕ) → c ≡ child_count (kind_of k) → c ≡ 3 → Ascends rs₀ rs z₀ l₀ (Match z)
+          pub climb_match : (c : ℕ) → c ≡ child_count (kind_meant k) → c ≡ 3 → Ascends rs₀ rs z₀ l₀ (Match z)
           climb_match c o m = record { does = λ types C t whole h. sought _ (match_stays (each types C t whole h) k lv kd v b tn e c o m) }
 
           module _ (rs' : List Record) (r : Focus) (cl : Closes rs rs' z r) where
             pub climb_less : r.s < z.s
             climb_less = closed_outward one k lv kd v b tn e rs' r cl
 
-            module _ (y : Bool) (o : y ≡ contracts lv (kind_of k)) where
-              pub climb_redex : y ≡ true → (c : ℕ) → c ≡ child_count (kind_of k) → c ≢ 3 → Ascends rs₀ rs' z₀ l₀ (Redex r lv)
+            module _ (y : Bool) (o : y ≡ contracts lv (kind_meant k)) where
+              pub climb_redex : y ≡ true → (c : ℕ) → c ≡ child_count (kind_meant k) → c ≢ 3 → Ascends rs₀ rs' z₀ l₀ (Redex r lv)
               climb_redex q c j m = record { does = λ types C t whole h. sought _ (closed_redex (each types C t whole h) k lv kd v b tn e rs' r cl y o q c j m) }
 
               pub climb_more : y ≡ false → Climbing rs₀ z₀ l₀ rs' r lv
@@ -76,4 +77,4 @@ module _ (rs₀ : List Record) (z₀ : Focus) (l₀ : ℕ) (rs : List Record) (z
                 some = i.some;
               }
 
-pub ruleset climbing = (climb_starts, climb_value, climb_in, climb_closes, climb_tells, climb_low, climb_next, climb_match, climb_less, climb_redex, climb_more)
+pub ruleset climbing = (climb_starts, climb_value, climb_known, climb_closes, climb_tells, climb_low, climb_next, climb_match, climb_less, climb_redex, climb_more)

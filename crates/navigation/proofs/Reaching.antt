@@ -1,28 +1,30 @@
 -- `reach`: the laws of going down to a redex and bringing it over the gap. `reaching` for search.
-use Prim.Native.Nat.{ℕ, zero, suc, ◌≤◌, ◌<◌}
+use Prim.Native.Nat.{ℕ, zero, suc, ◌≤◌}
 use native.Mathlib.Omega.{arith}
 use mathlib.Core.List.{List, ◌∷◌, ◌++◌}
 use mathlib.Core.Logic.{◌≢◌}
 use mathlib.Core.Path.{◌≡◌, refl, sym, ap, ◌∙◌}
 use lib.Dec.{T, eqb-suc-zero}
-use lib.ListN.{length}
-use Rattle.rules.specs.Kinds.{Ternary, match, ternary₃, child_count, kind_of}
+use Rattle.rules.specs.Kinds.{Ternary, match, ternary₃, child_count}
 use Rattle.rules.specs.Terms.{Fields, Term, leaf, unary, binary, ternary, root_kind}
 use Rattle.rules.specs.Types.{Table}
 use Rattle.rules.specs.Contractions.{contracts}
 use Rattle.rules.specs.Format.{Record}
-use Rattle.rules.proofs.KindTable.{each_kind, kind_back}
+use Rattle.rules.proofs.KindTable.{each_kind}
+use Rattle.kinds.specs.declared.names.Kind.{Kind as NamedKind}
+use Rattle.kinds.specs.Named.{kind_meant}
 use Rattle.contexts.specs.Contexts.{Frame, first₃, hole_level, Context, plug, level_at, Evaluation}
 use Rattle.contexts.specs.Moving.{Ready}
 use Rattle.contexts.proofs.Contexts.{plug_append, evaluation_append}
 use Rattle.zipper.specs.declared.focus.Focus.{Focus}
 use Rattle.zipper.specs.declared.focus.Ahead.{Ahead}
 use Rattle.navigation.specs.declared.ascending.Turn.TheVariants.{Redex, Match}
-use Rattle.terms.specs.Measuring.{KindIs}
+use Rattle.terms.specs.Measuring.{HasKind, KindIs}
 use Rattle.zipper.specs.Focusing.{AheadAt, HasAhead, Brings, CanOpen, Opens}
 use Rattle.navigation.specs.Ascending.{HeldIn, HeldAhead, Sought, redex, RedexIn, CanReach, Reaches}
 use Rattle.navigation.specs.Descending.{Towards, CanDescend, Descends}
-use Rattle.terms.proofs.Trees.{at_first, kind_read}
+use Rattle.terms.proofs.Trees.{kind_at}
+use Rattle.terms.proofs.Readings.{tree_kind}
 use Rattle.navigation.proofs.Turns.{match_stops}
 
 -- A match is rewritten at level 0, where it steps its code.
@@ -106,19 +108,19 @@ module _ (rs : List Record) (a : Ahead) (p : ℕ) (rs₁ : List Record) (x : Ahe
       typed = h.held.typed;
     }
 
-    children_read : (k c : ℕ) → KindIs rs₁ p k → c ≡ child_count (kind_of k) → child_count (root_kind u) ≡ c
-    children_read k c kd n = sym (n ∙ ap child_count (ap kind_of (kd.is ∙ kind_read rs₁ p u (record { there = rw d.place at at_redex.focus })) ∙ kind_back (root_kind u)))
+    children_read : (k : NamedKind) (c : ℕ) → KindIs rs₁ p k → c ≡ child_count (kind_meant k) → child_count (root_kind u) ≡ c
+    children_read k c kd n = sym (n ∙ ap child_count (kd.is ∙ kind_at rs₁ p u (record { there = rw d.place at at_redex.focus })))
 
   first_at : (h : CanReach rs a p) → AheadAt rs₁ x (h.inner ++ h.context) h.tree
   first_at h = at_redex h.types h.inner h.context h.tree h.whole h.redex_in
 
-  pub reach_in : CanReach rs a p → p < length rs₁
-  reach_in h = at_first rs₁ p h.tree (record { there = rw d.place at (first_at h).focus })
+  pub reach_known : CanReach rs a p → HasKind rs₁ p
+  reach_known h = tree_kind rs₁ p (record { tree = h.tree; there = record { there = rw d.place at (first_at h).focus } })
 
   pub reach_brings : CanReach rs a p → HasAhead rs₁ x
   reach_brings h = record { context = h.inner ++ h.context; focus = h.tree; laid = first_at h }
 
-  module _ (k c : ℕ) (kd : KindIs rs₁ p k) (n : c ≡ child_count (kind_of k)) where
+  module _ (k : NamedKind) (c : ℕ) (kd : KindIs rs₁ p k) (n : c ≡ child_count (kind_meant k)) where
     pub reach_redex : c ≢ 3 → (rs₂ : List Record) (z : Focus) → Brings rs₁ rs₂ x z → Reaches rs rs₂ a p (Redex z x.level)
     reach_redex m rs₂ z b = record {
       does = λ types D C u whole h.
@@ -143,4 +145,4 @@ module _ (rs : List Record) (a : Ahead) (p : ℕ) (rs₁ : List Record) (x : Ahe
         pub reach_match : (rs₃ : List Record) (z : Focus) → Brings rs₂ rs₃ y z → Reaches rs rs₃ a p (Match z)
         reach_match rs₃ z b = record { does = λ types D C u whole h. code_stops (each types D C u whole h) rs₂ y op rs₃ z b }
 
-pub ruleset reaching = (reach_descends, reach_in, reach_brings, reach_redex, reach_opens, reach_code, reach_match)
+pub ruleset reaching = (reach_descends, reach_known, reach_brings, reach_redex, reach_opens, reach_code, reach_match)

@@ -6,7 +6,7 @@ use mathlib.Core.Bool.{Bool, true, false}
 use mathlib.Core.Logic.{◌≢◌}
 use mathlib.Core.Path.{◌≡◌, refl, sym, ap, ap₂, ◌∙◌, subst}
 use lib.Dec.{T, ltb, ltb→lt, eqb, eqb-suc-zero}
-use Rattle.rules.specs.Kinds.{Ternary, match, Kind, leaf₀, unary₁, binary₂, ternary₃, function, fix, lift, quote, splice, child_count, kind_of}
+use Rattle.rules.specs.Kinds.{Ternary, match, ternary₃, child_count, kind_of}
 use Rattle.rules.specs.Terms.{Fields, Term, ternary}
 use Rattle.rules.specs.FreeBounds.{free_bound}
 use Rattle.rules.specs.Types.{Table}
@@ -16,6 +16,8 @@ use Rattle.rules.specs.Steps.{stepping, steps_child}
 use Rattle.rules.specs.Format.{Record}
 use Rattle.rules.proofs.General.{picked}
 use Rattle.rules.proofs.KindTable.{each_kind, kind_back}
+use Rattle.kinds.specs.declared.names.Kind.{Kind as NamedKind}
+use Rattle.kinds.specs.Named.{kind_meant}
 use Rattle.contexts.specs.Contexts.{Frame, only, first, second, first₃, second₃, third₃, fill, frame_kind, hole_number, hole_level, outer_level, StepsHole, Context, plug, level_at, left_size, Evaluation}
 use Rattle.contexts.specs.Sides.{right_size}
 use Rattle.contexts.specs.Moving.{Ready}
@@ -28,34 +30,23 @@ use Rattle.terms.specs.Measuring.{KindIs}
 use Rattle.zipper.specs.Focusing.{LaidAt, HasFrame, CountsAfter, CanClose, Closes}
 use Rattle.navigation.specs.Ascending.{Held, Rests, CanTellNext, TellsNext, Sought, valued, redex, matched, Turned, next}
 use Rattle.zipper.proofs.Places.{at_start, frame_read}
-use Rattle.zipper.proofs.Rows.{frame_in, counted}
+use Rattle.zipper.proofs.Rows.{frame_known, counted}
 use Rattle.zipper.proofs.Moves.{hole_moved}
 use Rattle.zipper.proofs.Closing.{filled_low}
 
--- `outer_level`: every kind but quote and splice stands at its children's level.
-pub keeps_level : (k : Kind) → 2 ≡ outer_level k 2 → (l : ℕ) → l ≡ outer_level k l
-keeps_level (leaf₀ k) e l = refl
-keeps_level (unary₁ function) e l = refl
-keeps_level (unary₁ fix) e l = refl
-keeps_level (unary₁ lift) e l = refl
-keeps_level (unary₁ quote) e l = absurd (omega arith)
-keeps_level (unary₁ splice) e l = absurd (omega arith)
-keeps_level (binary₂ k) e l = refl
-keeps_level (ternary₃ k) e l = refl
-
 -- The frame's kind, from what is read at its place.
-frame_kind_lem : (rs : List Record) (z : Focus) (k : ℕ) → KindIs rs z.top k → (F : Frame) (C : Context) (t : Term) → LaidAt rs z (F ∷ C) t → kind_of k ≡ frame_kind F
-frame_kind_lem rs z k kd F C t h = ap kind_of (kd.is ∙ ap (λ x. x.kind) (frame_read rs F C z.s z.r z.top h.around).1) ∙ kind_back (frame_kind F)
+frame_kind_lem : (rs : List Record) (z : Focus) (k : NamedKind) → KindIs rs z.top k → (F : Frame) (C : Context) (t : Term) → LaidAt rs z (F ∷ C) t → kind_meant k ≡ frame_kind F
+frame_kind_lem rs z k kd F C t h = kd.is ∙ ap (λ x. kind_of x.kind) (frame_read rs F C z.s z.r z.top h.around).1 ∙ kind_back (frame_kind F)
 
 -- `steps_next`
-module _ (rs : List Record) (z : Focus) (k c after : ℕ) (kd : KindIs rs z.top k) (n : c ≡ child_count (kind_of k)) (ca : CountsAfter rs z after) where
+module _ (rs : List Record) (z : Focus) (k : NamedKind) (c after : ℕ) (kd : KindIs rs z.top k) (n : c ≡ child_count (kind_meant k)) (ca : CountsAfter rs z after) where
   next_is : (F : Frame) (C : Context) (t : Term) → LaidAt rs z (F ∷ C) t → c ≡ suc (hole_number F) + after
   next_is F C t h = omega (arith, counted rs z k c kd n F C t h, ca.is F C t h)
 
   pub next_down : (level : ℕ) → CanTellNext rs z level → after ≤ c
   next_down level h = omega (arith, next_is h.holds.frame h.holds.context h.holds.focus h.holds.laid)
 
-  pub next_told : (level x : ℕ) → x ≡ stepping level (kind_of k) → TellsNext rs z level (ltb (c - after) x)
+  pub next_told : (level x : ℕ) → x ≡ stepping level (kind_meant k) → TellsNext rs z level (ltb (c - after) x)
   next_told level x e = record {
     is = λ F C t h.
         let i : c - after ≡ suc (hole_number F) = omega (arith, next_is F C t h) in
@@ -63,7 +54,7 @@ module _ (rs : List Record) (z : Focus) (k c after : ℕ) (kd : KindIs rs z.top 
         rw (i, j);
   }
 
-pub ruleset telling = (frame_in, next_down, next_told)
+pub ruleset telling = (frame_known, next_down, next_told)
 
 -- Some focus of the same term is done.
 pub record RestsIn (types : Table) (rs : List Record) (z : Focus) (level : ℕ) (whole : Term) : Type 0 where
@@ -172,8 +163,8 @@ module _ {types : Table} {rs : List Record} {z : Focus} {l : ℕ} {whole : Term}
   pub frame_closes : CanClose rs z
   frame_closes = record { holds = frame_held; low = low_bound }
 
-  module _ (k lv : ℕ) (kd : KindIs rs z.top k) (v : lv ≡ outer_level (kind_of k) l) where
-    kind_is : kind_of k ≡ frame_kind F
+  module _ (k : NamedKind) (lv : ℕ) (kd : KindIs rs z.top k) (v : lv ≡ outer_level (kind_meant k) l) where
+    kind_is : kind_meant k ≡ frame_kind F
     kind_is = frame_kind_lem rs z k kd F C t f.rests.held.laid
 
     level_is : lv ≡ level_at 0 C
@@ -204,7 +195,7 @@ module _ {types : Table} {rs : List Record} {z : Focus} {l : ℕ} {whole : Term}
         now_ready = ready (level_at 0 C) F t steps_hole hole_done (rw (next_steps ∙ e) tt)
 
         -- A match stays open.
-        pub match_stays : (c : ℕ) → c ≡ child_count (kind_of k) → c ≡ 3 → Sought types rs whole (Match z)
+        pub match_stays : (c : ℕ) → c ≡ child_count (kind_meant k) → c ≡ 3 → Sought types rs whole (Match z)
         match_stays c o m = frame_stops l C t whole F (sym (ap child_count kind_is) ∙ sym o ∙ m) steps_hole now_ready f.rests.held
 
         -- Any other frame is closed.
@@ -225,11 +216,11 @@ module _ {types : Table} {rs : List Record} {z : Focus} {l : ℕ} {whole : Term}
           unfolding right_size
           closed_onward = omega (arith, f.rests.held.laid.around.whole, now_held.laid.around.whole)
 
-          module _ (y : Bool) (o : y ≡ contracts lv (kind_of k)) where
+          module _ (y : Bool) (o : y ≡ contracts lv (kind_meant k)) where
             contracts_is : contracts (level_at 0 C) (frame_kind F) ≡ y
             contracts_is = sym (o ∙ ap₂ contracts level_is kind_is)
 
-            pub closed_redex : y ≡ true → (c : ℕ) → c ≡ child_count (kind_of k) → c ≢ 3 → Sought types rs' whole (Redex r lv)
+            pub closed_redex : y ≡ true → (c : ℕ) → c ≡ child_count (kind_meant k) → c ≢ 3 → Sought types rs' whole (Redex r lv)
             closed_redex q c i n =
                 let (root, _) = root_filled F t in
                 redex r lv C (fill F t) now_held now_ready (rw (root, contracts_is ∙ q) tt)

@@ -1,15 +1,14 @@
 // From a focus that is done to the next: a further child of a frame, a record that is rewritten, or the whole term, where that is a value. And from
 // a focus to the record inside it that is rewritten.
-ghost use Rattle.std.specs.Prelude.{◌≡◌, ◌≤◌};
-ghost use Rattle.rules.specs.Kinds.{kind_of};
-ghost use Rattle.rules.specs.Contractions.{contracts};
-ghost use Rattle.rules.specs.Steps.{stepping};
+ghost use Rattle.std.specs.Prelude.{◌≡◌};
+ghost use Rattle.kinds.specs.Named.{kind_meant};
 ghost use Rattle.contexts.specs.Contexts.{outer_level};
 ghost use Rattle.records.specs.View.{records_in};
 ghost use Rattle.navigation.specs.Ascending.{CanTellNext, TellsNext, CanAscend, Ascends, CanReach, Reaches};
 
 use crate::descending::descend;
-use terms::kind_at;
+use kinds::Kind;
+use terms::root_kind;
 use zipper::{Ahead, Focus, bring, children_after, close, open_ahead};
 
 // Where a focus that is done leads: a next focus, which is to be searched; or "the term is a value"; or a record that is rewritten, at its
@@ -23,37 +22,13 @@ pub enum Turn {
 }
 
 // The level of a record of this kind that steps a child at `level`.
-fn outer_level(kind: u16, level: u16) -> u16
-    ensures { result ≡ outer_level (kind_of kind) level }
+fn outer_level(kind: Kind, level: u16) -> u16
+    ensures { result ≡ outer_level (kind_meant kind) level }
 {
     match kind {
-        7 => 0,
-        8 => 1,
+        Kind::Quote => 0,
+        Kind::Splice => 1,
         _ => level,
-    }
-}
-
-// How many of its children a record of this kind steps at this level.
-fn stepping_at(kind: u16, level: u16) -> u16
-    requires { level ≤ 1 }
-    ensures { result ≡ stepping level (kind_of kind) }
-{
-    if level == 0 {
-        kinds::stepping_at_zero(kind)
-    } else {
-        kinds::stepping_at_one(kind)
-    }
-}
-
-// Whether a record of this kind is rewritten at this level, once the children that it steps are done.
-fn contracts_at(kind: u16, level: u16) -> bool
-    requires { level ≤ 1 }
-    ensures { result ≡ contracts level (kind_of kind) }
-{
-    if level == 0 {
-        kinds::contracts_at_zero(kind)
-    } else {
-        kinds::contracts_at_one(kind)
     }
 }
 
@@ -62,10 +37,10 @@ fn steps_next(w: &[u8], z: Focus, level: u16) -> bool
     requires { CanTellNext (records_in w.now) z level }
     ensures { TellsNext (records_in w.now) z level result }
 {
-    let kind = kind_at(w, z.top);
+    let kind = root_kind(w, z.top);
     let after = children_after(w, z);
-    let next = kinds::children(kind) - after;
-    next < stepping_at(kind, level)
+    let next = kind.children() - after;
+    next < kind.stepping(level)
 }
 
 // From a focus that is done, at its level: frames that are done are closed, until one steps its next child, which is the first tree after the gap,
@@ -80,7 +55,7 @@ pub fn ascend(w: &mut [u8], z: Focus, level: u16) -> Turn
         if at.s == 0 {
             return Turn::Value(at);
         }
-        let kind = kind_at(w, at.top);
+        let kind = root_kind(w, at.top);
         let outer = outer_level(kind, inner);
         if steps_next(w, at, outer) {
             return Turn::Next(Ahead {
@@ -90,12 +65,12 @@ pub fn ascend(w: &mut [u8], z: Focus, level: u16) -> Turn
                 level: inner,
             });
         }
-        if kinds::children(kind) == 3 {
+        if kind.children() == 3 {
             return Turn::Match(at);
         }
         at = close(w, at);
         inner = outer;
-        if contracts_at(kind, outer) {
+        if kind.contracts(outer) {
             return Turn::Redex(at, outer);
         }
     }
@@ -107,8 +82,8 @@ pub fn reach(w: &mut [u8], a: Ahead, p: usize) -> Turn
     ensures { Reaches (records_in w.old) (records_in w.new) a p result }
 {
     let redex = descend(w, a, p);
-    let kind = kind_at(w, p);
-    if kinds::children(kind) == 3 {
+    let kind = root_kind(w, p);
+    if kind.children() == 3 {
         let code = open_ahead(w, redex, 0);
         return Turn::Match(bring(w, code));
     }

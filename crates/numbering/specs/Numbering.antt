@@ -1,8 +1,9 @@
 -- What code keeps while it gives the types of a table their numbers: an array, by the order of use that `order` defines.
-use Rattle.std.specs.Prelude.{ℕ, ◌≤◌, ◌<◌, List, map, ◌≡◌, eqb, length, get_or}
-use Rattle.rules.specs.Lists.{All, pick}
+use Rattle.std.specs.Prelude.{ℕ, ◌≤◌, ◌<◌, List, map, ◌≡◌, length, get_or}
+use Rattle.rules.specs.Lists.{All}
 use Rattle.rules.specs.Types.{Table}
 use Rattle.rules.specs.Format.{Record}
+use Rattle.rules.specs.FieldUses.{Use, unused, an_index, a_type, a_number}
 use Rattle.order.specs.FullTypes.{NamesType, GoodEntries, in_full}
 use Rattle.order.specs.Order.{types_of_record, new_number, needed, need_all}
 use Rattle.order.specs.OrderInFull.{Listed}
@@ -34,9 +35,12 @@ pub record CanNeed (types : Table) (x : ℕ) (new : List ℕ) (count : ℕ) : Ty
 pub record Needs (types : Table) (x : ℕ) (new : List ℕ) (count : ℕ) (new' : List ℕ) (count' : ℕ) : Type 0 where
   pub is : (seen : List ℕ) → Numbering types new count seen → Numbering types new' count' (needed types x seen)
 
--- The type that a field x names whose use has number u: 0 where it names none.
-unfoldable pub type_named : ℕ → ℕ → ℕ
-type_named u x = pick (eqb u 2) x 0
+-- The type that a field x names that is used so: 0 where it names none.
+unfoldable pub type_named : Use → ℕ → ℕ
+type_named unused x = 0
+type_named an_index x = 0
+type_named a_type x = x
+type_named a_number x = 0
 
 -- The same for the types that a record names.
 pub record CanNeedRecord (types : Table) (r : Record) (new : List ℕ) (count : ℕ) : Type 0 where

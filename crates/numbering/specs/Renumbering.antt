@@ -1,15 +1,11 @@
 -- Records that get the new numbers of the types that they name, from the first record of a list on.
-use Rattle.std.specs.Prelude.{ℕ, zero, suc, ◌≤◌, ◌<◌, List, [], ◌∷◌, ◌≡◌, eqb, length, get_or, take}
-use Rattle.rules.specs.Lists.{All, pick, joined}
+use Rattle.std.specs.Prelude.{ℕ, zero, suc, ◌≤◌, ◌<◌, List, [], ◌∷◌, ◌≡◌, length, get_or, take}
+use Rattle.rules.specs.Lists.{All, joined}
 use Rattle.rules.specs.Types.{Table}
 use Rattle.rules.specs.Format.{Record}
 use Rattle.order.specs.FullTypes.{NamesType, GoodEntries}
 use Rattle.order.specs.Order.{types_of_record, new_number, need_all, renumbered_record}
 use Rattle.numbering.specs.Numbering.{Numbering}
-
--- A field x whose use has number u, where it names a type by its number in the array.
-unfoldable pub number_named : List ℕ → ℕ → ℕ → ℕ
-number_named new u x = pick (eqb u 2) (get_or new x 0) x
 
 -- The array has a place for each type that r names; and s is r with the numbers of the array.
 pub record CanRenumberRecord (r : Record) (new : List ℕ) : Type 0 where

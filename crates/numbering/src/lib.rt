@@ -3,14 +3,17 @@
 // there then is written as a program.
 #![tactic(auto)]
 
-ghost use Rattle.std.specs.Prelude.{◌≡◌, ◌<◌, length};
+ghost use Rattle.std.specs.Prelude.{◌≡◌, ◌<◌, length, get_or};
 ghost use Rattle.records.specs.View.{entries_in, records_in};
 ghost use Rattle.records.specs.Meant.{record_meant};
+ghost use Rattle.kinds.specs.Named.{use_meant};
+ghost use Rattle.order.specs.Order.{renumbered_in};
 ghost use Rattle.numbering.specs.Numbering.{type_named, CanNeed, Needs, CanNeedRecord, RecordNeeds};
-ghost use Rattle.numbering.specs.Renumbering.{number_named, CanRenumberRecord, RenumbersRecord, CanRenumber, Renumbers};
+ghost use Rattle.numbering.specs.Renumbering.{CanRenumberRecord, RenumbersRecord, CanRenumber, Renumbers};
 ghost use Rattle.numbering.specs.Tables.{CanOrderEntry, OrdersEntry, CanOrderTable, OrdersTable};
 ghost use Rattle.numbering.specs.InOrder.{CanWriteInOrder, CanWriteWith, WritesInOrder};
 
+use kinds::{Kind, Use};
 use records::{Entry, Record};
 
 // A place for the number of each type that a table can have, and of 0.
@@ -47,12 +50,12 @@ fn need(table: &[u8], x: u16, new: &mut [u16], count: u16) -> u16
     next
 }
 
-// The same for the type that a field x names whose use has this number, if it names one. Most types have their number already.
-fn need_field(table: &[u8], usage: u16, x: u16, new: &mut [u16], count: u16) -> u16
-    requires { CanNeed (entries_in table.now) (type_named usage x) new.old count }
-    ensures { Needs (entries_in table.now) (type_named usage x) new.old count new.new result }
+// The same for the type that a field x names that is used so, if it names one. Most types have their number already.
+fn need_field(table: &[u8], usage: Use, x: u16, new: &mut [u16], count: u16) -> u16
+    requires { CanNeed (entries_in table.now) (type_named (use_meant usage) x) new.old count }
+    ensures { Needs (entries_in table.now) (type_named (use_meant usage) x) new.old count new.new result }
 {
-    if usage != 2 {
+    if usage != Use::Entry {
         return count;
     }
     if new[x as usize] != 0 {
@@ -66,19 +69,22 @@ fn need_record(table: &[u8], r: Record, new: &mut [u16], count: u16) -> u16
     requires { CanNeedRecord (entries_in table.now) (record_meant r) new.old count }
     ensures { RecordNeeds (entries_in table.now) (record_meant r) new.old count new.new result }
 {
-    let a = kinds::use_of_a(r.kind);
-    let b = kinds::use_of_b(r.kind);
-    let first = need_field(table, 2, r.ty, new, count);
-    let second = need_field(table, a, r.a, new, first);
-    need_field(table, b, r.b, new, second)
+    let kind = Kind::of(r.kind);
+    let first = need_field(table, Use::Entry, r.ty, new, count);
+    let second = need_field(table, kind.use_of_a(), r.a, new, first);
+    need_field(table, kind.use_of_b(), r.b, new, second)
 }
 
-// A field x whose use has this number, with the new number of the type that it names, if it names one.
-fn number_named(new: &[u16], usage: u16, x: u16) -> u16
-    requires { type_named usage x < length new.now }
-    ensures { result ≡ number_named new.now usage x }
+// A field x that is used so, with the new number of the type that it names, if it names one.
+fn number_named(new: &[u16], usage: Use, x: u16) -> u16
+    requires { type_named (use_meant usage) x < length new.now }
+    ensures { result ≡ renumbered_in (λ y. get_or new.now y 0) (use_meant usage) x }
 {
-    if usage == 2 { new[x as usize] } else { x }
+    if usage == Use::Entry {
+        new[x as usize]
+    } else {
+        x
+    }
 }
 
 // A record with the new numbers of the types that it names.
@@ -86,14 +92,12 @@ fn with_numbers(r: Record, new: &[u16]) -> Record
     requires { CanRenumberRecord (record_meant r) new.now }
     ensures { RenumbersRecord (record_meant r) new.now (record_meant result) }
 {
+    let kind = Kind::of(r.kind);
     Record {
-        kind: r.kind,
-        ty: number_named(new, 2, r.ty),
-        a: number_named(new, kinds::use_of_a(r.kind), r.a),
-        b: number_named(new, kinds::use_of_b(r.kind), r.b),
-        first: r.first,
-        next: r.next,
-        value: r.value,
+        ty: number_named(new, Use::Entry, r.ty),
+        a: number_named(new, kind.use_of_a(), r.a),
+        b: number_named(new, kind.use_of_b(), r.b),
+        ..r
     }
 }
 
@@ -104,12 +108,10 @@ fn renumber(table: &[u8], w: &mut [u8], n: usize, new: &mut [u16]) -> u16
     ensures { Renumbers (entries_in table.now) (records_in w.old) n (records_in w.new) new.new result }
 {
     let mut count: u16 = 0;
-    let mut i: usize = 0;
-    while i < n {
+    for i in 0..n {
         let r = records::get(w, i);
         count = need_record(table, r, new, count);
         records::put(w, i, with_numbers(r, new));
-        i += 1;
     }
     count
 }
@@ -137,9 +139,8 @@ fn order_table(table: &[u8], types: u16, new: &[u16], ordered: &mut [u8])
     requires { CanOrderTable (entries_in table.now) types new.now (entries_in ordered.old) }
     ensures { OrdersTable (entries_in table.now) types new.now (entries_in ordered.old) (entries_in ordered.new) }
 {
-    let mut x: u16 = 0;
-    while x < types {
-        x += 1;
+    for i in 0..types {
+        let x = i + 1;
         order_entry(table, x, new, ordered);
     }
 }

@@ -3,16 +3,11 @@ use Prim.Native.Nat.{ℕ, ◌+◌, ◌/◌, ◌%◌, ◌≤◌, ◌<◌}
 use native.Mathlib.Omega.{arith}
 use mathlib.Core.Path.{◌≡◌, ap, ◌∙◌}
 use mathlib.Core.List.{List, ◌++◌}
-use lib.ListN.{length, set}
+use lib.ListN.{length}
 use Rattle.rules.specs.Types.{Entry}
 use Rattle.rules.specs.Format.{Record, bytes16, bytes32, entry_bytes, record_bytes}
 use Rattle.records.specs.Overwritten.{overwritten}
-use Rattle.records.proofs.Overwriting.{overwritten_twice, overwritten_pair}
-
-pub u16_written : (s : List ℕ) (at v : ℕ) → v < 65536 → at + 1 < length s → set (set s at (v % 256)) (at + 1) (v / 256) ≡ overwritten s at (bytes16 v)
-u16_written s at v f h =
-    let high : v / 256 ≡ v / 256 % 256 = omega arith in
-    ap (set (set s at (v % 256)) (at + 1)) high ∙ overwritten_pair s at (v % 256) (v / 256 % 256) h
+use Rattle.records.proofs.Overwriting.{overwritten_twice}
 
 -- One more field after a front that is written.
 module _ (s : List ℕ) (x : ℕ) where

@@ -1,5 +1,6 @@
 // Little-endian fields, type entries of 6 bytes and records of 16 bytes in a slice of bytes: read and written by value.
-// The contracts say what the bytes mean by the definitions of `rules`; a caller knows a slice as a list of entries or records.
+// The contracts say what the bytes mean by the definitions of `rules`; a caller knows a slice as a list of entries or records. Each of the two has functions of
+// its own: a trait for both would need, beside a size, what each means in the rules and the laws of it, for five functions of one line.
 #![tactic(auto)]
 
 ghost use Rattle.std.specs.Prelude.{◌≡◌, ◌+◌, ◌*◌, ◌<◌, ◌≤◌, length, get_or, drop};
@@ -24,18 +25,11 @@ pub struct Record {
 }
 
 // An entry of the type table.
-#[derive(Clone, Copy)]
+#[derive(Clone, Copy, PartialEq, Eq)]
 pub struct Entry {
     pub kind: u16,
     pub a: u16,
     pub b: u16,
-}
-
-// A byte, as a wider number.
-fn byte(x: u8) -> u16
-    ensures { (result ≡ x) × (result < 256) }
-{
-    x as u16
 }
 
 // The field of two bytes at `at`, low byte first.
@@ -43,7 +37,7 @@ pub fn get16(s: &[u8], at: usize) -> u16
     requires { at + 1 < length s.now }
     ensures { result ≡ u16 s.now at }
 {
-    byte(s[at]) + 256 * byte(s[at + 1])
+    u16::from_le_bytes([s[at], s[at + 1]])
 }
 
 // The field of four bytes at `at`, low half first.
@@ -51,7 +45,7 @@ pub fn get32(s: &[u8], at: usize) -> u32
     requires { at + 3 < length s.now }
     ensures { result ≡ u32 s.now at }
 {
-    (get16(s, at) as u32) + 65536 * (get16(s, at + 2) as u32)
+    u32::from_le_bytes([s[at], s[at + 1], s[at + 2], s[at + 3]])
 }
 
 // Writes the field of two bytes at `at`.
@@ -59,8 +53,9 @@ pub fn put16(s: &mut [u8], at: usize, v: u16)
     requires { at + 1 < length s.old }
     ensures { s.new ≡ overwritten s.old at (bytes16 v) }
 {
-    s[at] = (v % 256) as u8;
-    s[at + 1] = (v / 256) as u8;
+    let bytes = v.to_le_bytes();
+    s[at] = bytes[0];
+    s[at + 1] = bytes[1];
 }
 
 // Writes the field of four bytes at `at`.

@@ -6,41 +6,34 @@ use mathlib.Core.Path.{◌≡◌, refl, sym, ap, subst, ◌∙◌}
 use mathlib.Core.Bool.{Bool, true, false, ◌&&◌, not}
 use mathlib.Core.List.{List, [], ◌∷◌, ◌++◌, append-nil}
 use lib.Dec.{T}
+use Rattle.std.specs.Prelude.{Some}
 use lib.ListN.{length, get_or, length-append}
 use mir.Facts.{and_yes}
 use mir.Syntax.{w16, w64}
 use mir.Val.{Fits}
-use Rattle.rules.specs.Kinds.{function, fix, lift, quote, splice, application, match, child_count, kind_of}
+use Rattle.rules.specs.Kinds.{function, fix, lift, quote, splice, application, match, child_count}
 use Rattle.rules.specs.Terms.{Fields, Term, leaf, unary, binary, ternary, root_kind, size}
 use Rattle.rules.specs.Contractions.{contracts}
 use Rattle.rules.specs.Format.{Record, no_record}
 use Rattle.rules.specs.Values.{plain_kind, plain}
 use Rattle.rules.proofs.General.{is_true}
 use Rattle.rules.proofs.Laid.{size_some}
+use Rattle.kinds.specs.declared.names.Kind.{Kind}
+use Rattle.kinds.specs.Named.{kind_meant}
 use Rattle.records.specs.View.{records_in}
 use Rattle.records.proofs.Records.{records_length}
 use Rattle.terms.specs.Children.{kids, sizes, preorders}
 use Rattle.terms.proofs.Children.{sizes_append, count_sizes, kids_count, kids_sizes}
 use Rattle.terms.specs.Preorder.{preorder, There, At, HasTree, Skips}
-use Rattle.terms.specs.Measuring.{KindIs, PlainIs}
+use Rattle.terms.specs.Measuring.{HasKind, KindIs}
 use Rattle.terms.proofs.There.{there_both}
-use Rattle.terms.proofs.Readings.{tree_first}
+use Rattle.terms.proofs.Readings.{tree_kind}
 use Rattle.terms.proofs.Trees.{length_preorders, preorders_append, at_first, size_read, at_within, kids_there, first_tree, later_trees}
 use Rattle.redexes.specs.declared.Found.{Found}
 use Rattle.redexes.specs.declared.Found.TheVariants.{Done, Redex}
 use Rattle.redexes.specs.Finding.{or_else, searched, or_here, find, Finds, SpliceBelow, SpliceAt, FindsSplice, splice_there, no_splice}
 use Rattle.redexes.proofs.Ends.{EndsAt, ends, done_found}
 use Rattle.redexes.proofs.Cases.{root_after, first_there, kind_seen}
-
--- `splice_below`
-module _ (rs : List Record) (i k : ℕ) (p : Bool) (h : PlainIs rs i p) where
-  pub below_none : p ≡ true → SpliceBelow rs i k false
-  below_none e = record { is = λ t a. let q : plain t ≡ true = sym (h.is t a) ∙ e in rw q }
-
-  pub below_told : p ≡ false → (b : Bool) → b ≡ plain_kind (kind_of k) → SpliceBelow rs i k b
-  below_told e b o = record { is = λ t a. let q : plain t ≡ false = sym (h.is t a) ∙ e in rw q o }
-
-pub ruleset below = (below_none, below_told)
 
 -- What is found at level 1 in trees that stand one after another from i on.
 unfoldable pub find_all : List Term → ℕ → Found
@@ -168,14 +161,17 @@ module _ (rs : List Record) (i at p : ℕ) (s : Scanning rs i at p) where
     pub scan_tree : HasTree rs at
     scan_tree = record { tree = held.tree; there = held.there }
 
+    pub scan_known : HasKind rs at
+    scan_known = tree_kind rs at scan_tree
+
     pub scan_shortens : i + (get_or rs i no_record).first - (at + 1) < i + (get_or rs i no_record).first - at
     scan_shortens = omega (arith, size_read rs i s.some.tree s.some.there, held.place, size_some held.tree)
 
     pub scan_shortens_past : (d : ℕ) → Skips rs at d → i + (get_or rs i no_record).first - d < i + (get_or rs i no_record).first - at
     scan_shortens_past d k = omega (arith, size_read rs i s.some.tree s.some.there, k.is held.tree held.there, held.place, size_some held.tree)
 
-    module _ (k : ℕ) (a : KindIs rs at k) where
-      pub scan_stops : (b : Bool) → b ≡ contracts 1 (kind_of k) → b ≡ true → FindsSplice rs i (Redex at)
+    module _ (k : Kind) (a : KindIs rs at k) where
+      pub scan_stops : (b : Bool) → b ≡ contracts 1 (kind_meant k) → b ≡ true → FindsSplice rs i (Redex at)
       scan_stops b e y = splice_there at (λ t h.
           let q = ahead t h in
           spliced rs i at q.tree t _ q.there (omega (arith, q.place, q.after)) (sym (ap (contracts 1) (kind_seen rs at k a q.tree q.there)) ∙ sym e ∙ y) q.same)
@@ -184,7 +180,7 @@ module _ (rs : List Record) (i at p : ℕ) (s : Scanning rs i at p) where
         below_is : (u : Term) → At rs at u → c ≡ not (plain u) && plain_kind (root_kind u)
         below_is u g = rw (← kind_seen rs at k a u g) (l.is u g)
 
-        pub scan_enters : c ≡ true → (m : ℕ) → m ≡ child_count (kind_of k) → Scanning rs i (at + 1) (p - 1 + m)
+        pub scan_enters : c ≡ true → (m : ℕ) → m ≡ child_count (kind_meant k) → Scanning rs i (at + 1) (p - 1 + m)
         scan_enters y m o = record { all = λ t h. go t (ahead t h); some = s.some }
           where
             go : (t : Term) → Ahead t → Scanned rs i (at + 1) (p - 1 + m) t
@@ -205,7 +201,7 @@ module _ (rs : List Record) (i at p : ℕ) (s : Scanning rs i at p) where
                       ∙ ap (λ r. or_else r (find_all q.later (at + size u))) (sym (plain_root u at v)) ∙ q.same;
                 }
 
-        pub scan_passes : (b : Bool) → b ≡ contracts 1 (kind_of k) → b ≡ false → c ≡ false → (d : ℕ) → Skips rs at d → Scanning rs i d (p - 1)
+        pub scan_passes : (b : Bool) → b ≡ contracts 1 (kind_meant k) → b ≡ false → c ≡ false → (d : ℕ) → Skips rs at d → Scanning rs i d (p - 1)
         unfolding or_else
         scan_passes b e n y d sk = record { all = λ t h. go t (ahead t h); some = s.some }
           where
@@ -230,13 +226,10 @@ module _ (s : List ℕ) (i at p : ℕ) (k : Scanning (records_in s) i at p) (z :
   pub scan_place_fits : Fits w64 (at + 1)
   scan_place_fits = omega (arith, scan_count _ _ _ _ k, records_length s)
 
-pub ruleset scanning = (tree_first, scan_starts, scan_tree, scan_stops, scan_enters, scan_passes, scan_shortens, scan_shortens_past, scan_counts, scan_place_fits, scan_ends)
+pub ruleset scanning = (scan_starts, scan_tree, scan_known, scan_stops, scan_enters, scan_passes, scan_shortens, scan_shortens_past, scan_counts, scan_place_fits, scan_ends)
 
 -- `find1`, by what `first_splice` tells.
-module _ (rs : List Record) (i p : ℕ) (x : Found) (f : FindsSplice rs i x) (e : x ≡ Redex p) where
-  splice_here : FindsSplice rs i (Redex p)
-  splice_here = rw e at f
-
+module _ (rs : List Record) (i p : ℕ) (f : FindsSplice rs i (Redex p)) where
   told : {q : ℕ} → FindsSplice rs i (Redex q) → (t : Term) → At rs i t → SpliceAt rs i q t
   told (splice_there q g) = g
 
@@ -245,31 +238,25 @@ module _ (rs : List Record) (i p : ℕ) (x : Found) (f : FindsSplice rs i x) (e 
   code_there {f} {c} h = first_there rs p (unary splice f c) c [] refl h
 
   pub splice_tree : HasTree rs i → HasTree rs (p + 1)
-  splice_tree h = let s = told splice_here h.tree h.there in record { tree = s.code; there = code_there s.there }
+  splice_tree h = let s = told f h.tree h.there in record { tree = s.code; there = code_there s.there }
 
   splice_in : HasTree rs i → p < length rs
-  splice_in h = at_first rs p _ (told splice_here h.tree h.there).there
+  splice_in h = at_first rs p _ (told f h.tree h.there).there
 
   pub splice_falls : (m : ℕ) → 2 * (get_or rs i no_record).first ≡ m → HasTree rs i → 2 * (get_or rs (p + 1) no_record).first + 1 < m
   unfolding size
-  splice_falls m g h = let s = told splice_here h.tree h.there in
+  splice_falls m g h = let s = told f h.tree h.there in
       omega (arith, size_read rs i h.tree h.there, size_read rs (p + 1) s.code (code_there s.there), s.inside)
 
-  pub found_splice : (y : Found) → Finds 0 rs (p + 1) y → (r : Found) → r ≡ or_here y true p → Finds 1 rs i r
+  pub found_splice : (y : Found) → Finds 0 rs (p + 1) y → (r : Found) → r ≡ or_here y (Some p) → Finds 1 rs i r
   unfolding find searched
   found_splice y g r o = record {
     is = λ t h.
-        let s = told splice_here t h in
-        o ∙ ap (λ z. or_here z true p) (g.is s.code (code_there s.there)) ∙ sym (root_after (find 0 s.code (p + 1)) true p p (λ n. absurd n)) ∙ sym s.same;
+        let s = told f t h in
+        o ∙ ap (λ z. or_here z (Some p)) (g.is s.code (code_there s.there)) ∙ sym (root_after (find 0 s.code (p + 1)) true p p (λ n. absurd n)) ∙ sym s.same;
   }
 
-pub splice_fits : (s : List ℕ) (i p : ℕ) (x : Found) → FindsSplice (records_in s) i x → x ≡ Redex p → HasTree (records_in s) i → length s < 2 ^ 64 → Fits w64 (p + 1)
-splice_fits s i p x f e h b = omega (arith, splice_in (records_in s) i p x f e h, records_length s)
+pub splice_fits : (s : List ℕ) (i p : ℕ) → FindsSplice (records_in s) i (Redex p) → HasTree (records_in s) i → length s < 2 ^ 64 → Fits w64 (p + 1)
+splice_fits s i p f h b = omega (arith, splice_in (records_in s) i p f h, records_length s)
 
-pub found_no_splice : (rs : List Record) (i e : ℕ) (x : Found) → FindsSplice rs i x → x ≡ Done e → Finds 1 rs i (Done e)
-found_no_splice rs i e x f q = record { is = λ t h. sym (told (rw q at f) t h) }
-  where
-    told : {d : ℕ} → FindsSplice rs i (Done d) → (t : Term) → At rs i t → find 1 t i ≡ Done d
-    told (no_splice d g) = g
-
-pub ruleset splicing = (splice_tree, splice_falls, splice_fits, found_splice, found_no_splice)
+pub ruleset splicing = (splice_tree, splice_falls, splice_fits, found_splice)

@@ -1,9 +1,10 @@
 -- How the search at level 0 goes down a tree: from a root that is rewritten to the child that it steps last.
-use Rattle.std.specs.Prelude.{ℕ, ◌<◌, ◌≡◌, true, false, List}
-use Rattle.rules.specs.Kinds.{kind_of}
+use Rattle.std.specs.Prelude.{ℕ, ◌<◌, ◌≡◌, Some, true, false, List}
 use Rattle.rules.specs.Terms.{Term, root_kind, size}
 use Rattle.rules.specs.Contractions.{contracts}
 use Rattle.rules.specs.Format.{Record}
+use Rattle.kinds.specs.declared.names.Kind.{Kind}
+use Rattle.kinds.specs.Named.{kind_meant}
 use Rattle.terms.specs.Preorder.{At}
 use Rattle.redexes.specs.declared.Found.{Found}
 use Rattle.redexes.specs.declared.Found.TheVariants.{Done, Redex}
@@ -16,19 +17,19 @@ pub record HasUnwritten (rs : List Record) (i : ℕ) : Type 0 where
   pub there : At rs i tree
   pub stays : contracts 0 (root_kind tree) ≡ false
 
--- A tree stands at i whose root, of kind number k, is rewritten once the children that it steps are done.
-pub record HasRewritten (rs : List Record) (i k : ℕ) : Type 0 where
+-- A tree stands at i whose root, of kind k, is rewritten once the children that it steps are done.
+pub record HasRewritten (rs : List Record) (i : ℕ) (k : Kind) : Type 0 where
   pub tree : Term
   pub there : At rs i tree
   pub kind : KindIs rs i k
-  pub rewritten : contracts 0 (kind_of k) ≡ true
+  pub rewritten : contracts 0 (kind_meant k) ≡ true
 
 -- The root of t, at i, steps the child at e last: what is found in t is what is found in that child, or else the root.
 pub record LastAt (rs : List Record) (i e : ℕ) (t : Term) : Type 0 where
   pub child : Term
   pub there : At rs e child
   pub fewer : size child < size t
-  pub same : find 0 t i ≡ or_here (find 0 child e) true i
+  pub same : find 0 t i ≡ or_here (find 0 child e) (Some i)
 
 -- What is found before the child that is stepped last, or where that child stands.
 pub data LastStepped (rs : List Record) (i : ℕ) : Found → Type 0 where

@@ -1,6 +1,6 @@
 -- Where the next step of a term is made.
-use Rattle.std.specs.Prelude.{ℕ, ◌+◌, ◌≤◌, ◌≡◌, List, Bool, ◌&&◌, not}
-use Rattle.rules.specs.Kinds.{splice, unary₁, binary₂, ternary₃, kind_of}
+use Rattle.std.specs.Prelude.{ℕ, ◌+◌, ◌≤◌, ◌≡◌, List, Bool, Option, None, Some, ◌&&◌, not}
+use Rattle.rules.specs.Kinds.{splice, unary₁, binary₂, ternary₃}
 use Rattle.rules.specs.Lists.{pick}
 use Rattle.rules.specs.Terms.{Fields, Term, leaf, unary, binary, ternary, root_kind, size}
 use Rattle.rules.specs.Format.{Record}
@@ -8,6 +8,8 @@ use Rattle.rules.specs.Typing.{level₁}
 use Rattle.rules.specs.Values.{plain_kind, plain}
 use Rattle.rules.specs.Contractions.{contracts}
 use Rattle.rules.specs.Steps.{steps_child}
+use Rattle.kinds.specs.declared.names.Kind.{Kind}
+use Rattle.kinds.specs.Named.{kind_meant}
 use Rattle.terms.specs.Preorder.{At, HasTree}
 use Rattle.redexes.specs.declared.Found.{Found}
 use Rattle.redexes.specs.declared.Found.TheVariants.{Done, Redex}
@@ -21,10 +23,11 @@ or_else (Redex p) y = Redex p
 unfoldable pub searched : Bool → Found → Found → Found
 searched b x y = pick b (or_else x y) y
 
--- What a first search finds to rewrite, or else the record at i where it is rewritten, or else nothing.
-unfoldable pub or_here : Found → Bool → ℕ → Found
-or_here (Done e) b i = pick b (Redex i) (Done e)
-or_here (Redex p) b i = Redex p
+-- What a first search finds to rewrite, or else the record that is rewritten then, or else nothing.
+unfoldable pub or_here : Found → Option ℕ → Found
+or_here (Done e) None = Done e
+or_here (Done e) (Some i) = Redex i
+or_here (Redex p) here = Redex p
 
 -- The root of the tree t at i, when the children that it steps are done.
 abbrev pub root_found : ℕ → Term → ℕ → Found
@@ -54,9 +57,9 @@ pub record CanFind (rs : List Record) (i l : ℕ) : Type 0 where
 pub record Finds (l : ℕ) (rs : List Record) (i : ℕ) (r : Found) : Type 0 where
   pub is : (t : Term) → At rs i t → r ≡ find l t i
 
--- b says whether the kind numbered k is plain and the tree at i isn't.
-pub record SpliceBelow (rs : List Record) (i k : ℕ) (b : Bool) : Type 0 where
-  pub is : (t : Term) → At rs i t → b ≡ not (plain t) && plain_kind (kind_of k)
+-- b says whether the kind k is plain and the tree at i isn't.
+pub record SpliceBelow (rs : List Record) (i : ℕ) (k : Kind) (b : Bool) : Type 0 where
+  pub is : (t : Term) → At rs i t → b ≡ not (plain t) && plain_kind (kind_meant k)
 
 -- Of the tree t at i: a splice stands at p, and what is found at level 1 in t is what is found in it.
 pub record SpliceAt (rs : List Record) (i p : ℕ) (t : Term) : Type 0 where

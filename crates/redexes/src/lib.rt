@@ -7,26 +7,27 @@ ghost use Rattle.terms.specs.Preorder.{HasTree};
 ghost use Rattle.redexes.specs.Finding.{or_here, CanFind, Finds, SpliceBelow, FindsSplice};
 ghost use Rattle.redexes.specs.Descent.{HasUnwritten, HasRewritten, LastStepped};
 
-// What a search of a tree finds: nothing to step, and the place after the tree; or the place of the record that the rules rewrite.
+use kinds::Kind;
+
+// What a search of a tree finds: nothing to step, and the place after the tree; or the place of the record that the rules rewrite. An enum of its
+// own, since neither answer is an error.
 #[derive(Clone, Copy)]
 pub enum Found {
     Done(usize),
     Redex(usize),
 }
 
-// What was found inside a tree, or where that is nothing and the record at `i` is rewritten, that record.
-fn or_here(inside: Found, rewritten: bool, i: usize) -> Found
-    ensures { result ≡ or_here inside rewritten i }
+// What was found inside a tree, or where that is nothing, the record that is rewritten then, if there is one.
+#[tactic(auto, unfolding(crate::specs::Finding::or_here))]
+fn or_here(inside: Found, here: Option<usize>) -> Found
+    ensures { result ≡ or_here inside here }
 {
     match inside {
         Found::Redex(p) => Found::Redex(p),
-        Found::Done(e) => {
-            if rewritten {
-                Found::Redex(i)
-            } else {
-                Found::Done(e)
-            }
-        }
+        Found::Done(e) => match here {
+            Some(i) => Found::Redex(i),
+            None => Found::Done(e),
+        },
     }
 }
 
@@ -36,7 +37,7 @@ fn find_at_rest(w: &[u8], i: usize) -> Found
     requires { HasUnwritten (records_in w.now) i }
     ensures { Finds 0 (records_in w.now) i result }
 {
-    if kinds::first_level(terms::kind_at(w, i), 0) == 1 {
+    if terms::root_kind(w, i).first_level(0) == 1 {
         return find1(w, i + 1);
     }
     Found::Done(terms::skip(w, i))
@@ -45,11 +46,11 @@ fn find_at_rest(w: &[u8], i: usize) -> Found
 // Of the root at `i`, which is rewritten once the children that it steps are done: what is found in a child before the last of them; or else
 // `Done`, with the place of the last.
 #[cycle(find0_find1_find_at_rest_last_stepped)]
-fn last_stepped(w: &[u8], i: usize, kind: u16) -> Found
+fn last_stepped(w: &[u8], i: usize, kind: Kind) -> Found
     requires { HasRewritten (records_in w.now) i kind }
     ensures { LastStepped (records_in w.now) i result }
 {
-    if kinds::stepping_at_zero(kind) == 2 {
+    if kind.stepping(0) == 2 {
         return find0(w, i + 1);
     }
     Found::Done(i + 1)
@@ -63,34 +64,32 @@ fn find0(w: &[u8], i: usize) -> Found
     ensures { Finds 0 (records_in w.now) i result }
 {
     let mut at = i;
-    let mut passed = i;
-    let mut any = false;
-    let mut kind = terms::kind_at(w, i);
-    while kinds::contracts_at_zero(kind) {
+    let mut passed = None;
+    let mut kind = terms::root_kind(w, i);
+    while kind.contracts(0) {
         match last_stepped(w, at, kind) {
             Found::Redex(p) => {
                 return Found::Redex(p);
             }
             Found::Done(e) => {
-                passed = at;
-                any = true;
+                passed = Some(at);
                 at = e;
             }
         }
-        kind = terms::kind_at(w, at);
+        kind = terms::root_kind(w, at);
     }
-    or_here(find_at_rest(w, at), any, passed)
+    or_here(find_at_rest(w, at), passed)
 }
 
 // Whether a splice may stand at level 1 below the root at `i`, of this kind: the kind is plain, and the tree isn't.
-fn splice_below(w: &[u8], i: usize, kind: u16) -> bool
+fn splice_below(w: &[u8], i: usize, kind: Kind) -> bool
     requires { HasTree (records_in w.now) i }
     ensures { SpliceBelow (records_in w.now) i kind result }
 {
     if terms::is_plain_at(w, i) {
         return false;
     }
-    kinds::is_plain(kind)
+    kind.is_plain()
 }
 
 // The place of the first splice that stands at level 1 in the tree at `i`; or else `Done`, with the place after the tree. A tree that is plain is
@@ -102,13 +101,13 @@ fn first_splice(w: &[u8], i: usize) -> Found
     let mut at = i;
     let mut pending: usize = 1;
     while 0 < pending {
-        let kind = terms::kind_at(w, at);
-        if kinds::contracts_at_one(kind) {
+        let kind = terms::root_kind(w, at);
+        if kind.contracts(1) {
             return Found::Redex(at);
         }
         pending -= 1;
         if splice_below(w, at, kind) {
-            pending += kinds::children(kind) as usize;
+            pending += kind.children() as usize;
             at += 1;
         } else {
             at = terms::skip(w, at);
@@ -125,7 +124,7 @@ fn find1(w: &[u8], i: usize) -> Found
 {
     let splice = first_splice(w, i);
     match splice {
-        Found::Redex(p) => or_here(find0(w, p + 1), true, p),
+        Found::Redex(p) => or_here(find0(w, p + 1), Some(p)),
         Found::Done(e) => Found::Done(e),
     }
 }

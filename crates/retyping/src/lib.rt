@@ -5,17 +5,16 @@ ghost use Rattle.std.specs.Prelude.{◌≤◌, length};
 ghost use Rattle.records.specs.View.{records_in};
 ghost use Rattle.retyping.specs.Retyping.{PutsTypes, CanWriteTyped, WritesTyped};
 
+use records::Record;
+
 // Puts the types, which are given in preorder, into the records of the tree at the front of `w`.
 fn put_types(w: &mut [u8], given: &[u16])
     requires { length given.now ≤ length (records_in w.old) }
     ensures { PutsTypes (records_in w.old) given.now (records_in w.new) }
 {
-    let mut i = 0;
-    while i < given.len() {
-        let mut r = records::get(w, i);
-        r.ty = given[i];
-        records::put(w, i, r);
-        i += 1;
+    for (i, ty) in given.iter().enumerate() {
+        let r = records::get(w, i);
+        records::put(w, i, Record { ty: *ty, ..r });
     }
 }
 

@@ -1,7 +1,7 @@
 -- `finish`: the run from its first state, and the last term's bytes. `finishing` for search.
 use Prim.Native.Nat.{ℕ}
 use mathlib.Core.List.{List}
-use mathlib.Core.Path.{sym, subst}
+use mathlib.Core.Path.{refl, sym, subst}
 use Rattle.rules.specs.Terms.{Term}
 use Rattle.rules.specs.Format.{Record}
 use Rattle.rules.specs.Run.{outcome_of, run}
@@ -10,36 +10,35 @@ use Rattle.steps.specs.declared.state.State.{State}
 use Rattle.steps.specs.Output.{CanWriteOut, WritesOut}
 use Rattle.running.specs.declared.Completion.{Completion}
 use Rattle.running.specs.declared.Halted.{Halted}
-use Rattle.running.specs.Looping.{Halts, RunsOut, Concludes}
+use Rattle.running.specs.Looping.{Halts, RunsOut}
 use Rattle.running.specs.Finishing.{CanFinish, Finished, Finishes}
 
 module _ (table : List ℕ) (types : ℕ) (rs : List Record) (s : State) (out : List ℕ) (h : CanFinish table types rs s out) (fuel : ℕ) (rs₁ : List Record) (q : Halted)
     (ro : RunsOut (entries_in table) fuel rs rs₁ s q) where
   pub finish_writes : CanWriteOut table types rs₁ q.state out
   finish_writes =
-      let stopped = (ro.does h.run.term h.run.holds).stopped in
+      let halted = ro.does h.run.term h.run.holds in
       record {
         rules = entries_in table;
-        term = stopped.last;
-        runs = stopped.runs;
+        term = halted.last;
+        runs = halted.runs;
         entries = h.entries;
         some_types = h.some_types;
         few_types = h.few_types;
         room = h.room;
       }
 
-  module _ (e : ℕ) (co : Concludes q.state e) (out' : List ℕ) (w : ℕ) (wo : WritesOut table types rs₁ q.state out out' w) where
+  module _ (out' : List ℕ) (w : ℕ) (wo : WritesOut table types rs₁ q.state out out' w) where
     abbrev completion : Completion
-    completion = record { ending = e; steps = q.state.steps; replaced = q.replaced; written = w }
+    completion = record { ending = q.ending; steps = q.state.steps; replaced = q.replaced; written = w }
 
     pub finish_done : Finishes table fuel rs s out out' completion
     finish_done = record { does = λ first k. go first (ro.does first k) }
       where
         go : (first : Term) → Halts (entries_in table) fuel first rs₁ q → Finished (entries_in table) out out' (run (entries_in table) fuel first) completion
         go first d =
-            let c = co.does (entries_in table) fuel first rs₁ d.stopped in
-            let b = wo.does (entries_in table) d.stopped.last d.stopped.runs in
-            subst (λ x. Finished (entries_in table) out out' (outcome_of x) completion) (sym c.is)
-            (record { ending = c.number; steps = d.stopped.counted; replaced = d.total; written = b.end; bytes = b.bytes })
+            let b = wo.does (entries_in table) d.last d.runs in
+            subst (λ x. Finished (entries_in table) out out' (outcome_of x) completion) (sym d.is)
+            (record { ending = refl; steps = d.counted; replaced = d.total; written = b.end; bytes = b.bytes })
 
 pub ruleset finishing = (finish_writes, finish_done)

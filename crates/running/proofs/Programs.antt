@@ -71,7 +71,6 @@ module _ (edition : Edition) (p out work : List ℕ) (h : CanRunProgram edition 
         run = record {
           term = first;
           holds = holds;
-          going = st.going;
           none = st.steps;
           unlike = rw (← table_is) (unlike (table_of p) m.layout.form.entries);
         };

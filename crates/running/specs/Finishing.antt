@@ -3,11 +3,12 @@ use Rattle.std.specs.Prelude.{ℕ, ◌*◌, ◌≤◌, List, ◌≡◌, length}
 use Rattle.rules.specs.Terms.{Term}
 use Rattle.rules.specs.Types.{Table}
 use Rattle.rules.specs.Format.{Record}
-use Rattle.rules.specs.Run.{Outcome, ending_number, run, output, written_over, output_needed}
+use Rattle.rules.specs.Run.{Outcome, run, output, written_over, output_needed}
 use Rattle.records.specs.View.{entries_in}
 use Rattle.steps.specs.declared.state.State.{State}
 use Rattle.steps.specs.Stepping.{HoldsTerm}
 use Rattle.running.specs.declared.Completion.{Completion}
+use Rattle.running.specs.Endings.{ending_meant}
 use Rattle.running.specs.Looping.{CanRun}
 
 -- The state holds the first term, the table has as many entries as `types` says, and the output has room for the largest program.
@@ -20,7 +21,7 @@ pub record CanFinish (table : List ℕ) (types : ℕ) (rs : List Record) (s : St
 
 -- What is told and written is this outcome's.
 pub record Finished (types : Table) (out out' : List ℕ) (o : Outcome) (r : Completion) : Type 0 where
-  pub ending : r.ending ≡ ending_number o.ending
+  pub ending : ending_meant r.ending ≡ o.ending
   pub steps : r.steps ≡ o.steps
   pub replaced : r.replaced ≡ o.replaced
   pub written : r.written ≡ length (output types o.last)

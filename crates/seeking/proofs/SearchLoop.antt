@@ -1,14 +1,13 @@
 -- `seek`: the loop over searches. Each that goes on does so further to the right. `seeking` for search.
-use Prim.Native.Nat.{ℕ, ◌+◌, ◌-◌, ◌<◌}
+use Prim.Native.Nat.{◌+◌, ◌-◌, ◌<◌}
 use native.Mathlib.Omega.{arith}
 use mathlib.Core.List.{List}
-use mathlib.Core.Path.{◌≡◌, subst}
+use mathlib.Core.Path.{◌≡◌, refl, subst}
 use Rattle.rules.specs.Terms.{Term}
 use Rattle.rules.specs.Types.{Table}
 use Rattle.rules.specs.Format.{Record}
 use Rattle.rules.proofs.Laid.{size_some}
 use Rattle.contexts.specs.Contexts.{Context}
-use Rattle.zipper.specs.declared.focus.Focus.{Focus}
 use Rattle.zipper.specs.declared.focus.Ahead.{Ahead}
 use Rattle.navigation.specs.declared.ascending.Turn.{Turn}
 use Rattle.navigation.specs.declared.ascending.Turn.TheVariants.{Next, Value, Redex, Match}
@@ -68,20 +67,11 @@ module _ (rs₀ rs : List Record) (from a : Ahead) (o : Onward rs₀ rs from a) 
           omega (arith, (next_held h.types h.context h.focus h.whole h.held).1, k.held.laid.around.whole, size_some k.focus)
 
     -- Otherwise it is over.
-    over : (x : Turn) → NoNext x → r ≡ x → Seeks rs₀ rs' from x
-    over x n e = record { does = λ types C t whole k. go types whole x n (subst (Turned types rs' (a.r + 1) whole) e (told types C t whole k)) }
+    pub onward_over : ((b : Ahead) → r ≡ Next b → ⊥) → Seeks rs₀ rs' from r
+    onward_over n = record { does = λ types C t whole k. go types whole r n (told types C t whole k) }
       where
-        go : (types : Table) (whole : Term) (x : Turn) → NoNext x → Turned types rs' (a.r + 1) whole x → Sought types rs' whole x
-        go types whole _ n (next b C t k l) = absurd n
+        go : (types : Table) (whole : Term) (x : Turn) → ((b : Ahead) → x ≡ Next b → ⊥) → Turned types rs' (a.r + 1) whole x → Sought types rs' whole x
+        go types whole _ n (next b C t k l) = absurd (n b refl)
         go types whole x n (sought _ s) = s
 
-    pub onward_value : (z : Focus) → r ≡ Value z → Seeks rs₀ rs' from (Value z)
-    onward_value z = over (Value z) tt
-
-    pub onward_redex : (z : Focus) (level : ℕ) → r ≡ Redex z level → Seeks rs₀ rs' from (Redex z level)
-    onward_redex z level = over (Redex z level) tt
-
-    pub onward_match : (z : Focus) → r ≡ Match z → Seeks rs₀ rs' from (Match z)
-    onward_match z = over (Match z) tt
-
-pub ruleset seeking = (onward_starts, onward_seeks, onward_again, onward_less, onward_value, onward_redex, onward_match)
+pub ruleset seeking = (onward_starts, onward_seeks, onward_again, onward_less, onward_over)

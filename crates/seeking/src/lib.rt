@@ -30,19 +30,12 @@ pub fn seek_from(w: &mut [u8], from: Ahead) -> Turn
 {
     let mut a = from;
     loop {
-        let turn = search(w, a);
-        match turn {
+        match search(w, a) {
             Turn::Next(b) => {
                 a = b;
             }
-            Turn::Value(z) => {
-                return Turn::Value(z);
-            }
-            Turn::Redex(z, level) => {
-                return Turn::Redex(z, level);
-            }
-            Turn::Match(z) => {
-                return Turn::Match(z);
+            found => {
+                return found;
             }
         }
     }

@@ -3,7 +3,7 @@ use Prim.Native.Nat.{◌+◌, ◌≤◌}
 use native.Mathlib.Omega.{arith}
 use mathlib.Core.List.{List, []}
 use mathlib.Core.Logic.{inl, inr, ⊎_elim}
-use mathlib.Core.Path.{◌≡◌, refl, sym, subst, ◌∙◌}
+use mathlib.Core.Path.{◌≡◌, refl, sym, ◌∙◌}
 use mir.Syntax.{w32}
 use mir.Val.{Fits}
 use Rattle.rules.specs.Terms.{Term, size}
@@ -23,8 +23,9 @@ use Rattle.zipper.proofs.Sides.{length_left}
 use Rattle.contraction.specs.declared.making.Block.{Block}
 use Rattle.contraction.specs.Making.{Makes, CanMake, Made, MakesBlock}
 use Rattle.steps.specs.declared.state.State.{State}
+use Rattle.steps.specs.declared.state.Step.{Step}
 use Rattle.steps.specs.declared.state.Aim.{Aim}
-use Rattle.steps.specs.Stepping.{After, running}
+use Rattle.steps.specs.Stepping.{running}
 use Rattle.steps.specs.Contracting.{Contracting, Roomy, CanProceed, Proceeds}
 use Rattle.steps.proofs.Values.{runs_few}
 
@@ -96,18 +97,17 @@ module _ (rs : List Record) (s : State) (a : Aim) (h : CanProceed rs s a) where
     proceed_replaced = let (w, few) = event_within h.contracting in omega (arith, (made h.contracting h.room m).counted, w.few)
 
     module _ (rs₂ : List Record) (b : Ahead) (p : PutsAhead rs₁ rs₂ a.hole block.at block.size b) where
-      abbrev after : State
-      after = record { turn = Next b; stopped = s.stopped; steps = s.steps + 1; event = record { rule = a.rule; place = a.hole.l + 1; replaced = block.replaced } }
+      abbrev after : Step
+      after = record { state = record { turn = Next b; steps = s.steps + 1 }; event = record { rule = a.rule; place = a.hole.l + 1; replaced = block.replaced } }
 
       pub proceed_made : Proceeds rs rs₂ s a after
       proceed_made = record {
         does = λ types whole k room.
             let u = plug k.context k.contractum in
             let counted = (made k room m).counted in
-            subst (After types rs₂ s after whole) (sym h.going)
-            (running u k.becomes (omega (arith, next_size k, room, inside k))
+            running after u k.becomes (omega (arith, next_size k, room, inside k))
             (record { turned = next b k.context k.contractum (held k room m rs₂ b p) (omega arith) }) refl
-            (λ i. record { rule = k.ruled i; place = sym k.placed i; replaced = counted i }));
+            (λ i. record { rule = k.ruled i; place = sym k.placed i; replaced = counted i });
       }
 
 pub ruleset proceeding = (proceed_makes, proceed_puts, proceed_replaced, proceed_made)

@@ -1,7 +1,6 @@
 -- `State::start`: a program's first term is loaded to the last slots, and is to be searched. `starting` for search.
 use Prim.Native.Nat.{ℕ, ◌-◌, ◌≤◌}
 use native.Mathlib.Omega.{arith}
-use mathlib.Core.Bool.{false}
 use mathlib.Core.List.{List, []}
 use mathlib.Core.Path.{refl}
 use Rattle.rules.specs.Types.{Table}
@@ -65,12 +64,10 @@ module _ (program : List Record) (count : ℕ) (rs : List Record) (h : CanStart 
           typed = y;
         }
 
-    pub start_holds : Starts program rs' (record { turn = Next (first_focus (4096 - count)); stopped = false; steps = 0; event = record { rule = 0; place = 0; replaced = 0 } })
+    pub start_holds : Starts program rs' (record { turn = Next (first_focus (4096 - count)); steps = 0 })
     start_holds = record {
       holds = λ types y. record { turned = next (first_focus (4096 - count)) [] (root_tree program) (first_held types y) (omega arith) };
       steps = refl;
-      going = refl;
-      event = refl;
     }
 
 pub ruleset starting = (start_fits, start_loads, start_holds)

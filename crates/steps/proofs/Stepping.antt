@@ -3,7 +3,7 @@ use Prim.Native.Nat.{ℕ, ◌-◌, ◌≤◌}
 use native.Mathlib.Omega.{arith}
 use mathlib.Core.Bool.{Bool, true, false}
 use mathlib.Core.List.{List}
-use mathlib.Core.Path.{◌≡◌, refl, sym, subst, ◌∙◌}
+use mathlib.Core.Path.{◌≡◌, sym, subst, ◌∙◌}
 use lib.Dec.{T, leb}
 use borrow.Author.Tests.{leb-true, leb-false}
 use Rattle.rules.specs.Kinds.{match}
@@ -22,7 +22,9 @@ use Rattle.contraction.specs.Redexes.{CanPlanWhole, TellsRule, PlansWhole}
 use Rattle.matching.specs.Matches.{HasMatch as HasOpen, TellsMatchRule, CanPlanMatch, PlansMatch}
 use Rattle.contraction.specs.Making.{CanMeasure, TellsFits}
 use Rattle.steps.specs.declared.state.State.{State}
+use Rattle.steps.specs.declared.state.Step.{Step}
 use Rattle.steps.specs.declared.state.Aim.{Aim}
+use Rattle.std.specs.Prelude.{Some, None}
 use Rattle.steps.specs.Stepping.{Runs, CanStep, too_large, Stepped}
 use Rattle.steps.specs.Contracting.{Contracting, Aims, Roomy, CanProceed, Proceeds}
 use Rattle.seeking.proofs.SearchLoop.{sought_over}
@@ -101,17 +103,17 @@ module _ (types : Table) (rs : List Record) (s : State) (h : CanStep types rs s)
       roomy e k = omega (arith, leb-true (size k.contractum) _ (sym (test k) ∙ e), wide k)
 
       pub step_proceeds : b ≡ true → CanProceed rs s a
-      step_proceeds e = record { types = types; whole = h.term; contracting = k₀; room = roomy e k₀; going = h.going; counts = h.counts }
+      step_proceeds e = record { types = types; whole = h.term; contracting = k₀; room = roomy e k₀; counts = h.counts }
 
-      pub step_proceeded : b ≡ true → (rs' : List Record) (r : State) → Proceeds rs rs' s a r → Stepped types rs rs' s r
+      pub step_proceeded : b ≡ true → (rs' : List Record) (r : Step) → Proceeds rs rs' s a r → Stepped types rs rs' s (Some r)
       step_proceeded e rs' r p = record { does = λ t k. p.does types t (d.does t k) (roomy e (d.does t k)) }
 
-      pub step_full : b ≡ false → Stepped types rs rs s (record { turn = s.turn; stopped = true; steps = s.steps; event = s.event })
+      pub step_full : b ≡ false → Stepped types rs rs s None
       step_full e = record {
         does = λ t runs.
             let k = d.does t runs in
             let large = leb-false (size k.contractum) _ (sym (test k) ∙ e) in
-            too_large (plug k.context k.contractum) k.becomes (omega (arith, next_size k, wide k, inside k)) (record { found = runs.found }) refl refl;
+            too_large (plug k.context k.contractum) k.becomes (omega (arith, next_size k, wide k, inside k)) runs;
       }
 
 pub ruleset aiming = (aim_plans, aim_whole, aim_matches, aim_plans_match, aim_opens, aim_open, aim_value, aim_next)

@@ -1,15 +1,14 @@
--- What a state tells of the term that it holds: whether it is a value, and that it has at most 2,048 records. `telling` for search.
-use Prim.Native.Nat.{ℕ, ◌≤◌}
+-- What a state tells of the term that it holds: whether it is a value, and that it has at most 2,048 records.
+use Prim.Native.Nat.{◌≤◌}
 use mathlib.Core.Bool.{true, false}
 use mathlib.Core.List.{List}
-use mathlib.Core.Path.{◌≡◌, sym, subst}
+use mathlib.Core.Path.{◌≡◌, refl, sym, subst}
 use Rattle.rules.specs.Terms.{Term, size}
 use Rattle.rules.specs.Types.{Table}
 use Rattle.rules.specs.Values.{value}
 use Rattle.rules.specs.Format.{Record, most_records}
 use Rattle.rules.proofs.General.{is_true}
 use Rattle.zipper.specs.declared.focus.Focus.{Focus}
-use Rattle.zipper.specs.declared.focus.Ahead.{Ahead}
 use Rattle.navigation.specs.declared.ascending.Turn.{Turn}
 use Rattle.navigation.specs.declared.ascending.Turn.TheVariants.{Next, Value, Redex, Match}
 use Rattle.navigation.specs.Ascending.{Sought, valued, redex, matched}
@@ -42,19 +41,15 @@ sought_redex types rs t _ n (redex z level C u h r c b) = no_value types C u t (
 sought_redex types rs t _ n (matched z k f s e C q h l r c) = no_value types C _ t (open_reducible types rs z k f s e C q t h l r c)
 
 module _ (s : State) where
-  pub tells_value : (z : Focus) → s.turn ≡ Value z → TellsValue s true
-  tells_value z e = record { is = λ types rs t h. sym (sought_value types rs t z (subst (Sought types rs t) e h.found)) }
+  -- A state at no value holds none.
+  pub tells_other : ((z : Focus) → s.turn ≡ Value z → ⊥) → TellsValue s false
+  tells_other h = go s.turn refl
+    where
+      none : (x : Turn) → NoValue x → s.turn ≡ x → TellsValue s false
+      none x n e = record { is = λ types rs t h. sym (sought_redex types rs t x n (subst (Sought types rs t) e h.found)) }
 
-  none : (x : Turn) → NoValue x → s.turn ≡ x → TellsValue s false
-  none x n e = record { is = λ types rs t h. sym (sought_redex types rs t x n (subst (Sought types rs t) e h.found)) }
-
-  pub tells_next : (a : Ahead) → s.turn ≡ Next a → TellsValue s false
-  tells_next a = none (Next a) tt
-
-  pub tells_redex : (z : Focus) (level : ℕ) → s.turn ≡ Redex z level → TellsValue s false
-  tells_redex z level = none (Redex z level) tt
-
-  pub tells_match : (z : Focus) → s.turn ≡ Match z → TellsValue s false
-  tells_match z = none (Match z) tt
-
-pub ruleset telling = (tells_value, tells_next, tells_redex, tells_match)
+      go : (x : Turn) → s.turn ≡ x → TellsValue s false
+      go (Value z) e = absurd (h z e)
+      go (Next a) e = none (Next a) tt e
+      go (Redex z level) e = none (Redex z level) tt e
+      go (Match z) e = none (Match z) tt e

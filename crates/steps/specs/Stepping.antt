@@ -1,5 +1,5 @@
 -- One step of a run: what it asks of a state, and the state after it.
-use Rattle.std.specs.Prelude.{◌+◌, ◌^◌, ◌≤◌, ◌<◌, List, Bool, true, false, ◌≡◌}
+use Rattle.std.specs.Prelude.{◌+◌, ◌^◌, ◌≤◌, ◌<◌, List, Bool, false, ◌≡◌, Option, Some, None}
 use Rattle.std.proofs.Math.Option.{some}
 use Rattle.rules.specs.Terms.{Term, size}
 use Rattle.rules.specs.Types.{Table, NoTwins}
@@ -11,6 +11,7 @@ use Rattle.rules.specs.Format.{Record, most_records}
 use Rattle.navigation.specs.Ascending.{Sought, Turned}
 use Rattle.steps.specs.declared.events.Event.{Event as Told}
 use Rattle.steps.specs.declared.state.State.{State}
+use Rattle.steps.specs.declared.state.Step.{Step}
 
 -- The state holds t, which keeps the rules of its table: at a focus that is to be searched, or where the search is over.
 pub record HoldsTerm (types : Table) (rs : List Record) (s : State) (t : Term) : Type 0 where
@@ -35,8 +36,6 @@ pub record HasRun (rs : List Record) (s : State) : Type 0 where
 pub record SeeksTerm (rs rs' : List Record) (s r : State) : Type 0 where
   pub does : (types : Table) (t : Term) → HoldsTerm types rs s t → Runs types rs' r t
   pub steps : r.steps ≡ s.steps
-  pub stopped : r.stopped ≡ s.stopped
-  pub event : r.event ≡ s.event
 
 -- r is whether the term is a value.
 pub record TellsValue (s : State) (r : Bool) : Type 0 where
@@ -48,7 +47,6 @@ pub record CanStep (types : Table) (rs : List Record) (s : State) : Type 0 where
   pub runs : Runs types rs s term
   pub no_value : value term ≡ false
   pub unlike : NoTwins types
-  pub going : s.stopped ≡ false
   pub counts : s.steps + 1 < 2 ^ 32
 
 -- t is no value, and its next term is u; the event of the step.
@@ -57,15 +55,15 @@ pub record Becomes (types : Table) (t u : Term) : Type 0 where
   pub event : Event
   pub is_next : next types 0 t ≡ some (record { event = event; term = u })
 
--- An event as a state tells it, its rule by its number.
+-- An event as a step tells it, its rule by its number.
 abbrev pub told : Event → Told
 told e = record { rule = rule_number e.rule; place = e.place; replaced = e.replaced }
 
--- After a step from t, by whether the run is stopped: the next term has room, and the step is made, whose event the state tells; or "the next term has more
--- than 2,048 records", and no step is made.
-pub data After (types : Table) (rs' : List Record) (s r : State) (t : Term) : Bool → Type 0 where
-  running : (u : Term) (b : Becomes types t u) → size u ≤ most_records → HoldsTerm types rs' r u → r.steps ≡ s.steps + 1 → r.event ≡ told b.event → After types rs' s r t false
-  too_large : (u : Term) → Becomes types t u → most_records < size u → Runs types rs' r t → r.steps ≡ s.steps → r.event ≡ s.event → After types rs' s r t true
+-- After a step from t: the next term has room, and the step is made, with its event; or "the next term has more than 2,048 records", and no
+-- step is made.
+pub data After (types : Table) (rs' : List Record) (s : State) (t : Term) : Option Step → Type 0 where
+  running : (r : Step) (u : Term) (b : Becomes types t u) → size u ≤ most_records → HoldsTerm types rs' r.state u → r.state.steps ≡ s.steps + 1 → r.event ≡ told b.event → After types rs' s t (Some r)
+  too_large : (u : Term) → Becomes types t u → most_records < size u → Runs types rs' s t → After types rs' s t None
 
-pub record Stepped (types : Table) (rs rs' : List Record) (s r : State) : Type 0 where
-  pub does : (t : Term) → Runs types rs s t → After types rs' s r t r.stopped
+pub record Stepped (types : Table) (rs rs' : List Record) (s : State) (r : Option Step) : Type 0 where
+  pub does : (t : Term) → Runs types rs s t → After types rs' s t r

@@ -21,14 +21,12 @@ fn count_before(table: &[u8], from: u16, types: u16, e: Entry) -> u16
     requires { CanLookUp (entries_in table.now) from types (entry_meant e) }
     ensures { result ≡ before (take types (entries_in table.now)) (entry_meant e) }
 {
-    let mut i = from;
-    while i < types {
-        if fields::same_entry(records::get_entry(table, i as usize), e) {
+    for i in from..types {
+        if records::get_entry(table, i as usize) == e {
             return i;
         }
-        i += 1;
     }
-    i
+    types
 }
 
 // The number of the entry `e`, which is appended to the first `types` where none of them is like it. An entry stands after its parts, so that it is
@@ -37,7 +35,7 @@ pub fn have(table: &mut [u8], types: u16, e: Entry) -> Held
     requires { CanHave (entries_in table.old) types (entry_meant e) }
     ensures { Has (entries_in table.old) (entries_in table.new) types (entry_meant e) result }
 {
-    let found = count_before(table, kinds::larger(e.a, e.b), types, e);
+    let found = count_before(table, e.a.max(e.b), types, e);
     if found < types {
         return Held {
             number: found + 1,

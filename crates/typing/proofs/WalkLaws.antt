@@ -1,13 +1,15 @@
--- The laws of the walk: `walking` for search.
+-- The laws of the walk.
 use Prim.Native.Nat.{ℕ, ◌+◌, ◌-◌, ◌*◌, ◌/◌, ◌%◌, ◌≤◌, ◌<◌}
 use native.Mathlib.Omega.{arith}
 use mathlib.Core.Path.{◌≡◌, refl, ap, sym, ◌∙◌}
 use mathlib.Core.List.{List, []}
-use mathlib.Core.Option.{Option, none}
+use mathlib.Core.Option.{Option, none, some}
 use lib.ListN.{length}
-use borrow.Author.Tests.{lt-ltb, le-ltb}
+use borrow.Author.Tests.{ne_eqb}
+use Rattle.std.specs.Prelude.{Result, Ok, Err, MatchResult, IsErrAnd}
+use Rattle.rules.specs.Kinds.{kind_of}
 use Rattle.rules.specs.Types.{Table}
-use Rattle.rules.specs.Typing.{Env}
+use Rattle.rules.specs.Typing.{Env, first_level}
 use Rattle.rules.specs.Format.{Record}
 use Rattle.rules.specs.Links.{first_of, next_of}
 use Rattle.rules.specs.Check.{walked}
@@ -15,103 +17,81 @@ use Rattle.rules.specs.Refusals.{Refusal, bad_link, bad_children, ◌then◌}
 use Rattle.rules.proofs.Tests.{holds_lowest}
 use Rattle.rules.proofs.Tree.{first_le, next_le, chain_size, chain_none, whole_size}
 use Rattle.rules.proofs.Meaning.{no_bad_link}
-use Rattle.records.specs.Places.{InChain, Follows}
-use Rattle.refusals.specs.declared.Verdict.{Verdict}
-use Rattle.refusals.specs.Tells.{verdict_at, Tells}
-use Rattle.refusals.proofs.Laws.{tells_none, tells_placed, tells_first, tells_next}
+use Rattle.kinds.specs.declared.names.Kind.{Kind}
+use Rattle.kinds.specs.Named.{kind_meant}
+use Rattle.records.specs.declared.Record.{Record as Read}
+use Rattle.records.specs.Places.{IsRecord, Follows}
+use Rattle.refusals.specs.declared.reasons.Reason.{Reason}
+use Rattle.refusals.specs.declared.reasons.Refusal.{Refusal as Reported}
+use Rattle.refusals.specs.Reports.{Reports}
+use Rattle.refusals.proofs.Reporting.{reports_first, reports_next}
 use Rattle.judging.specs.Stack.{stack}
+use Rattle.judging.specs.Tests.{refusal_at, Names}
+use Rattle.judging.proofs.Naming.{OfJudging, nothing_named, something_named}
 use Rattle.typing.specs.declared.Child.{Child}
-use Rattle.typing.specs.Reading.{CanRead, IsThird, second_of, third_of}
+use Rattle.typing.specs.Reading.{second_of, third_of}
+use Rattle.typing.specs.Pushing.{PushesFirst, PushesSecond}
 use Rattle.typing.specs.Entering.{CanEnter, Enters, EntersFirst, EntersSecond}
-use Rattle.typing.specs.Walking.{judged_at, JudgesOwn, tree_size, verdict_in, Packs, CanWalk, Walks, MakeTree}
+use Rattle.typing.specs.Walking.{judged_at, JudgesRead, tree_size, refusal_in, Packs, Unpacks, CanWalk, Walks, MakeTree}
 use Rattle.typing.proofs.Depths.{stack_below}
+use Rattle.typing.proofs.RecordLaws.{first_link, second_link, its_third}
+use Rattle.typing.proofs.ChildLaws.{enters_first, enters_second}
 use Rattle.typing.proofs.TreeCounts.{tree_then_chain, record_then_chain, none_after_third}
-use Rattle.typing.proofs.WalkedBy.{from_first, from_second, from_third, walked_by, first_nothing, second_nothing, third_nothing}
+use Rattle.typing.proofs.WalkedBy.{from_first, from_second, from_third, walked_by, first_nothing, second_nothing, third_nothing, walked_of_judging}
 
 -- A record's tree has a record, so that one is left.
 pub one_left : (rs : List Record) (bs : List ℕ) (d n left : ℕ) → CanWalk rs bs d n left → 1 ≤ left
 one_left rs bs d n left can = omega (arith, can.enough, record_then_chain rs can.chained n can.here.real can.here.within)
 
-pub rest_falls : (rs : List Record) (bs : List ℕ) (d n left : ℕ) → CanWalk rs bs d n left → (t : ℕ) → left ≡ t → left - 1 < t
-rest_falls rs bs d n left can t m = omega (arith, one_left rs bs d n left can)
-
-pub can_enter : (rs : List Record) (bs : List ℕ) (d n left : ℕ) → CanWalk rs bs d n left → CanEnter rs bs d n
+can_enter : (rs : List Record) (bs : List ℕ) (d n left : ℕ) → CanWalk rs bs d n left → CanEnter rs bs d n
 can_enter rs bs d n left can = record { here = can.here; room = omega (arith, can.room, one_left rs bs d n left can) }
 
 -- What the number says that the walk hands back.
-pub passed_number : (q : ℕ) → q < 65536 → record { number = 0; place = 0 } ≡ verdict_in q
-unfolding verdict_in
-passed_number q h = rw (lt-ltb q 65536 h)
+passed_number : (q : ℕ) → q < 65536 → none ≡ refusal_in q
+unfolding refusal_in
+passed_number q h = let e : q / 65536 ≡ 0 = omega arith in rw e
 
-pub refused_number : (q : ℕ) → 65536 ≤ q → record { number = q / 65536; place = q % 65536 } ≡ verdict_in q
-unfolding verdict_in
-refused_number q h = rw (le-ltb q 65536 h)
+refused_number : (q : ℕ) → 65536 ≤ q → refusal_in q ≡ some (record { number = q / 65536; place = q % 65536 })
+unfolding refusal_in
+refused_number q h = let some_number : q / 65536 ≡ 0 → ⊥ = omega arith in rw (ne_eqb (q / 65536) 0 some_number)
 
-pub packs : (number place : ℕ) → 1 ≤ number → place < 65536 → Packs (record { number = number; place = place }) (65536 * number + place)
+pub packs : (number place : ℕ) → 1 ≤ number → place < 65536 → Packs number place (65536 * number + place)
 packs number place h k =
     let q = 65536 * number + place in
     let a : q / 65536 ≡ number = omega arith in
     let b : q % 65536 ≡ place = omega arith in
-    record { holds = sym (refused_number q (omega arith)) ∙ (λ i. record { number = a i; place = b i }); refused = omega arith }
+    record { holds = refused_number q (omega arith) ∙ (λ i. some (record { number = a i; place = b i })); refused = omega arith }
+
+-- What its parts say: by `judged` of the number, with the place put beside the reason.
+pub unpacks : (q : ℕ) (j : Result Unit Reason) (r : Result Unit Reported) (Placed : Reason → Reported → Type 0) → Names (q / 65536) j
+    → ((e : Reason) (x : Reported) → Placed e x → x ≡ record { reason = e; place = q % 65536 }) → MatchResult j (λ x. r ≡ Ok x) (λ e. IsErrAnd r (Placed e)) → Unpacks q r
+unpacks q (Ok x) r Placed h k m = rw m h
+unpacks q (Err e) (Ok x) Placed h k m = absurd m
+unpacks q (Err e) (Err x) Placed h k m = rw (k e x m) (h, refl)
+
+unpacked : (q : ℕ) (r : Result Unit Reported) (o : Option Refusal) → Unpacks q r → OfJudging o → refusal_in q ≡ o → Reports r o
+unfolding refusal_in
+unpacked q (Ok x) o u j e = nothing_named (q / 65536) (q % 65536) o e u
+unpacked q (Err r) o (h, p) j e = rw p (something_named (q / 65536) (q % 65536) o r.reason j e h)
 
 -- How far the walk of record n has come. Its checks so far have passed, so that it says what the `rest` of them says, which begins with the tree of
--- `child`; q is its answer where there is no such child. The stack, which was bs, is bs' with what is below the depth kept. t is the walk's measure.
-pub record WalkedSoFar (t : ℕ) (types : Table) (rs : List Record) (bs bs' : List ℕ) (d l n left q child : ℕ) (rest : Option Refusal) : Type 0 where
-  pub measure : left ≡ t
+-- `child`; q is its answer where there is no such child. The stack, which was bs, is bs' with what is below the depth kept.
+record WalkedSoFar (types : Table) (rs : List Record) (bs bs' : List ℕ) (d l n left q child : ℕ) (rest : Option Refusal) : Type 0 where
   pub can : CanWalk rs bs' d n left
-  pub same : length bs' ≡ length bs
   pub kept : stack bs' d ≡ stack bs d
-  pub says : (v : Verdict) → Tells v rest → Tells v (walked (length rs) types rs (stack bs d) l n)
+  pub says : rest ≡ walked (length rs) types rs (stack bs d) l n
   pub nothing : child ≡ 0 → rest ≡ none
   pub falls : q < left
   pub counted : q + tree_size rs n ≡ left + chain_size rs child
 
--- The record's own checks stop the walk, or pass.
-module _ (types : Table) (rs : List Record) (bs : List ℕ) (d l n left v : ℕ) (own : JudgesOwn types rs (stack bs d) l n v) (can : CanWalk rs bs d n left) where
-  by_own : walked (length rs) types rs (stack bs d) l n ≡ judged_at types rs (stack bs d) l n then from_first types rs (stack bs d) l n
-  by_own = walked_by types rs (stack bs d) l n can.here.real can.here.within
-
-  pub stops_own : (q : ℕ) → (v ≡ 0 → ⊥) → Packs (record { number = v; place = n }) q → Walks types rs bs bs d l n left q
-  stops_own q h p = record {
-    tells = rw (p.holds, by_own) (tells_first _ _ _ (tells_placed v n _ h own.tells) h);
-    counted = λ e. absurd (omega (arith, p.refused));
-    kept = refl;
-  }
-
-  passes_own : (t : ℕ) → v ≡ 0 → left ≡ t
-      → WalkedSoFar t types rs bs bs d l n left (left - 1) (first_of rs n) (from_first types rs (stack bs d) l n)
-  passes_own t e m = let some = one_left rs bs d n left can in record {
-    measure = m;
-    can = can;
-    same = refl;
-    kept = refl;
-    says = λ p told. rw by_own (tells_next (verdict_at v n) p _ _ own.tells e told);
-    nothing = first_nothing types rs (stack bs d) l n;
-    falls = omega arith;
-    counted = omega (arith, record_then_chain rs can.chained n can.here.real can.here.within);
-  }
-
-module _ (t : ℕ) (types : Table) (rs : List Record) (bs bs₀ : List ℕ) (d l n left q child : ℕ) (rest : Option Refusal)
-    (far : WalkedSoFar t types rs bs bs₀ d l n left q child rest) where
-  pub passed_enter : CanEnter rs bs₀ d n
-  passed_enter = can_enter rs bs₀ d n left far.can
-
-  pub passed_read : CanRead rs n
-  passed_read = far.can.here
-
-  pub passed_falls : q < t
-  passed_falls = omega (arith, far.falls, far.measure)
-
-  -- It is a number of records.
-  low : q < 65536
-  low = omega (arith, far.falls, far.can.most)
-
+module _ (types : Table) (rs : List Record) (bs bs₀ : List ℕ) (d l n left q child : ℕ) (rest : Option Refusal)
+    (far : WalkedSoFar types rs bs bs₀ d l n left q child rest) where
   -- Without a child the walk ends.
-  ends : (bs₁ : List ℕ) → stack bs₁ d ≡ stack bs₀ d → child ≡ 0 → Walks types rs bs bs₁ d l n left q
-  ends bs₁ k e = record {
-    tells = far.says (verdict_in q) (rw (far.nothing e, ← passed_number q low) tells_none);
+  ends : child ≡ 0 → Walks types rs bs bs₀ d l n left q
+  ends e = record {
+    tells = sym (passed_number q (omega (arith, far.falls, far.can.most))) ∙ sym (far.nothing e) ∙ far.says;
     counted = λ _. omega (arith, far.counted, ap (chain_size rs) e, chain_none rs);
-    kept = k ∙ far.kept;
+    kept = far.kept;
   }
 
   -- A child's tree can be walked with the records left.
@@ -130,7 +110,7 @@ module _ (t : ℕ) (types : Table) (rs : List Record) (bs bs₀ : List ℕ) (d l
 
     -- The child's tree stops the walk, or passes.
     module _ (bs₂ : List ℕ) (p : ℕ) (walk : Walks types rs bs₁ bs₂ c.depth c.level c.n q p) where
-      told : Tells (verdict_in p) (walked (length rs) types rs Γ k child)
+      told : refusal_in p ≡ walked (length rs) types rs Γ k child
       told = rw (← enters.over, ← enters.level, ← enters.number) walk.tells
 
       kept : stack bs₂ d ≡ stack bs d
@@ -142,104 +122,138 @@ module _ (t : ℕ) (types : Table) (rs : List Record) (bs bs₀ : List ℕ) (d l
       module _ (more : Option Refusal) (begins : rest ≡ walked (length rs) types rs Γ k child then more) where
         stops : 65536 ≤ p → Walks types rs bs bs₂ d l n left p
         stops h = record {
-          tells = far.says (verdict_in p) (rw begins (tells_first (verdict_in p) _ _ told (λ e. omega (arith, ap (λ v. v.number) (refused_number p h)))));
+          tells = refused_number p h ∙ reports_first _ _ more (sym (refused_number p h) ∙ told) ∙ sym begins ∙ far.says;
           counted = λ e. absurd (omega arith);
           kept = kept;
         }
 
         passes : (next_of rs child ≡ 0 → more ≡ none) → p < 65536 → length bs₁ ≡ length bs₀ → length bs₂ ≡ length bs₁
-            → WalkedSoFar t types rs bs bs₂ d l n left p (next_of rs child) more
+            → WalkedSoFar types rs bs bs₂ d l n left p (next_of rs child) more
         passes nothing e same₁ same₂ = record {
-          measure = far.measure;
           can = record { here = far.can.here; chained = far.can.chained; enough = far.can.enough; most = far.can.most; room = omega (arith, far.can.room) };
-          same = same₂ ∙ same₁ ∙ far.same;
           kept = kept;
-          says = λ v u. far.says v (rw begins (tells_next (verdict_in p) v _ _ told (sym (ap (λ w. w.number) (passed_number p e))) u));
+          says = reports_next more _ more (passed_number p e ∙ told) refl ∙ sym begins ∙ far.says;
           nothing = nothing;
           falls = omega (arith, far.falls, walk.counted e);
           counted = left_after e;
         }
 
--- The same for the first child, the second and the third.
-pub first_chained : (rs : List Record) (bs bs₁ : List ℕ) (d l n left : ℕ) (c : Child) → EntersFirst rs bs bs₁ d l n c → CanWalk rs bs d n left → InChain rs c.n
-first_chained rs bs bs₁ d l n left c enters can = record { good = can.here.linked; most = rw enters.enters.number (first_le rs n) }
+-- The walk of record n, which is r, of this kind; v is the number of its own fault. Its checks stop the walk, or pass.
+module _ (types : Table) (rs : List Record) (bs : List ℕ) (d l n left : ℕ) (can : CanWalk rs bs d n left) (r : Read) (own : IsRecord rs n r) where
+  module _ (kind : Kind) (named : kind_meant kind ≡ kind_of r.kind) (v : ℕ) (judged : JudgesRead types rs (stack bs d) l kind r v) where
+    by_own : judged_at types rs (stack bs d) l n then from_first types rs (stack bs d) l n ≡ walked (length rs) types rs (stack bs d) l n
+    by_own = sym (walked_by types rs (stack bs d) l n can.here.real can.here.within)
 
-module _ (types : Table) (rs : List Record) (bs bs₁ : List ℕ) (d l n left : ℕ) (c : Child) (enters : EntersFirst rs bs bs₁ d l n c) (can : CanWalk rs bs d n left) (v : ℕ)
-    (own : JudgesOwn types rs (stack bs d) l n v) (z : v ≡ 0) where
-  far : (t : ℕ) → left ≡ t → WalkedSoFar t types rs bs bs d l n left (left - 1) (first_of rs n) (from_first types rs (stack bs d) l n)
-  far t m = passes_own types rs bs d l n left v own can t z m
+    own_told : refusal_at v n ≡ judged_at types rs (stack bs d) l n
+    own_told = judged.tells n can.here own named
 
-  pub ends_leaf : c.n ≡ 0 → Walks types rs bs bs₁ d l n left (left - 1)
-  ends_leaf e = ends left types rs bs bs d l n left (left - 1) _ _ (far left refl) bs₁ enters.enters.kept (sym enters.enters.number ∙ e)
+    pub stops_own : (q : ℕ) → (v ≡ 0 → ⊥) → Packs v n q → Walks types rs bs bs d l n left q
+    stops_own q h p = record {
+      tells = p.holds ∙ reports_first _ _ _ (rw (ne_eqb v 0 h) at own_told) ∙ by_own;
+      counted = λ e. absurd (omega (arith, p.refused));
+      kept = refl;
+    }
 
-  pub goes_first : (c.n ≡ 0 → ⊥) → length bs₁ ≡ length bs → CanWalk rs bs₁ c.depth c.n (left - 1)
-  goes_first there = goes left types rs bs bs d l n left (left - 1) _ _ (far left refl) bs₁ c _ _ enters.enters (first_le rs n) there
+    module _ (z : v ≡ 0) where
+      passes_own : WalkedSoFar types rs bs bs d l n left (left - 1) (first_of rs n) (from_first types rs (stack bs d) l n)
+      passes_own = let some = one_left rs bs d n left can in record {
+        can = can;
+        kept = refl;
+        says = reports_next _ _ _ (rw z at own_told) refl ∙ by_own;
+        nothing = first_nothing types rs (stack bs d) l n;
+        falls = omega arith;
+        counted = omega (arith, record_then_chain rs can.chained n can.here.real can.here.within);
+      }
 
-  module _ (there : c.n ≡ 0 → ⊥) (bs₂ : List ℕ) (p : ℕ) (walk : Walks types rs bs₁ bs₂ c.depth c.level c.n (left - 1) p) where
-    pub stops_first : 65536 ≤ p → Walks types rs bs bs₂ d l n left p
-    unfolding from_first
-    stops_first = stops left types rs bs bs d l n left (left - 1) _ _ (far left refl) bs₁ c _ _ enters.enters (first_le rs n) there bs₂ p walk _ refl
+      pub ends_leaf : r.first ≡ 0 → Walks types rs bs bs d l n left (left - 1)
+      ends_leaf e = ends types rs bs bs d l n left (left - 1) _ _ passes_own (sym (first_link rs n r own can.here) ∙ e)
 
-    pub passes_first : p < 65536 → length bs₁ ≡ length bs → length bs₂ ≡ length bs₁ → (t : ℕ) → left ≡ t
-        → WalkedSoFar t types rs bs bs₂ d l n left p (second_of rs n) (from_second types rs (stack bs d) l n)
-    unfolding from_first
-    passes_first h same₁ same₂ t m =
-        passes t types rs bs bs d l n left (left - 1) _ _ (far t m) bs₁ c _ _ enters.enters (first_le rs n) there bs₂ p walk _ refl (second_nothing types rs (stack bs d) l n) h same₁ same₂
+      -- The first child's tree.
+      module _ (there : r.first ≡ 0 → ⊥) (bs₁ : List ℕ) (inner m : ℕ) (pushed : PushesFirst kind l r.a bs bs₁ d inner) (at : m ≡ first_level (kind_meant kind) l)
+          (same₁ : length bs₁ ≡ length bs) where
+        abbrev first : Child
+        first = record { n = r.first; level = m; depth = inner }
 
--- What follows the first child is the second, and is read before the first's tree is walked.
-module _ (t : ℕ) (types : Table) (rs : List Record) (bs bs₀ : List ℕ) (d l n left q : ℕ)
-    (far : WalkedSoFar t types rs bs bs₀ d l n left q (second_of rs n) (from_second types rs (stack bs d) l n))
-    (bs₁ : List ℕ) (first : Child) (entered : EntersFirst rs bs bs₁ d l n first) (m : ℕ) (next : Follows rs first.n m) where
-  second_is : m ≡ second_of rs n
-  second_is = next.is ∙ ap (next_of rs) entered.enters.number
+        enters₁ : EntersFirst rs bs bs₁ d l n first
+        enters₁ = enters_first rs bs bs₁ d l n inner r own can.here kind named m pushed at
 
-  pub ends_first : m ≡ 0 → Walks types rs bs bs₀ d l n left q
-  ends_first e = ends t types rs bs bs₀ d l n left q _ _ far bs₀ refl (sym second_is ∙ e)
+        pub goes_first : CanWalk rs bs₁ inner r.first (left - 1)
+        goes_first = goes types rs bs bs d l n left (left - 1) _ _ passes_own bs₁ first _ _ enters₁.enters (first_le rs n) there same₁
 
-  module _ (there : m ≡ 0 → ⊥) (bs₂ : List ℕ) (c : Child) (enters : EntersSecond rs bs₀ bs₂ d l n c) where
-    second_there : c.n ≡ 0 → ⊥
-    second_there e = there (second_is ∙ sym enters.enters.number ∙ e)
+        module _ (bs₂ : List ℕ) (p : ℕ) (walk : Walks types rs bs₁ bs₂ inner m r.first (left - 1) p) where
+          pub stops_first : 65536 ≤ p → Walks types rs bs bs₂ d l n left p
+          unfolding from_first
+          stops_first = stops types rs bs bs d l n left (left - 1) _ _ passes_own bs₁ first _ _ enters₁.enters (first_le rs n) there bs₂ p walk _ refl
 
-    pub goes_second : length bs₂ ≡ length bs₀ → CanWalk rs bs₂ c.depth c.n q
-    goes_second = goes t types rs bs bs₀ d l n left q _ _ far bs₂ c _ _ enters.enters (next_le rs (first_of rs n)) second_there
+          -- What follows the first child is the second.
+          module _ (low : p < 65536) (same₂ : length bs₂ ≡ length bs₁) (next : ℕ) (follows : Follows rs r.first next) where
+            passes_first : WalkedSoFar types rs bs bs₂ d l n left p (second_of rs n) (from_second types rs (stack bs d) l n)
+            unfolding from_first
+            passes_first =
+                passes types rs bs bs d l n left (left - 1) _ _ passes_own bs₁ first _ _ enters₁.enters (first_le rs n) there bs₂ p walk _ refl
+                (second_nothing types rs (stack bs d) l n) low same₁ same₂
 
-    module _ (bs₃ : List ℕ) (p : ℕ) (walk : Walks types rs bs₂ bs₃ c.depth c.level c.n q p) where
-      pub stops_second : 65536 ≤ p → Walks types rs bs bs₃ d l n left p
-      unfolding from_second
-      stops_second = stops t types rs bs bs₀ d l n left q _ _ far bs₂ c _ _ (rw far.kept at enters.enters) (next_le rs (first_of rs n)) second_there bs₃ p walk _ refl
+            pub falls_first : p < left
+            falls_first = passes_first.falls
 
-      pub passes_second : p < 65536 → length bs₂ ≡ length bs₀ → length bs₃ ≡ length bs₂
-          → WalkedSoFar t types rs bs bs₃ d l n left p (third_of rs n) (from_third types rs (stack bs d) l n)
-      unfolding from_second
-      passes_second = passes t types rs bs bs₀ d l n left q _ _ far bs₂ c _ _ (rw far.kept at enters.enters) (next_le rs (first_of rs n)) second_there bs₃ p walk _ refl
-          (third_nothing types rs (stack bs d) l n)
+            pub ends_first : next ≡ 0 → Walks types rs bs bs₂ d l n left p
+            ends_first e = ends types rs bs bs₂ d l n left p _ _ passes_first (sym (second_link rs n r own can.here next follows) ∙ e)
 
-module _ (t : ℕ) (types : Table) (rs : List Record) (bs bs₀ : List ℕ) (d l n left q : ℕ)
-    (far : WalkedSoFar t types rs bs bs₀ d l n left q (third_of rs n) (from_third types rs (stack bs d) l n)) (e : ℕ) (third : IsThird rs n e) where
-  pub ends_second : e ≡ 0 → Walks types rs bs bs₀ d l n left q
-  ends_second z = ends t types rs bs bs₀ d l n left q _ _ far bs₀ refl (sym third.is ∙ z)
+            pub room_second : d + 2 ≤ length bs₂
+            room_second = (can_enter rs bs₂ d n left passes_first.can).room
 
-  -- The third child stands where the record itself does.
-  stands : Enters (stack bs₀ d) l (third_of rs n) bs₀ bs₀ d (record { n = e; level = l; depth = d })
-  stands = record { number = third.is; level = refl; over = refl; kept = refl; above = omega arith; most = omega arith }
+            -- The second child's tree.
+            module _ (there₂ : next ≡ 0 → ⊥) (bs₃ : List ℕ) (within : ℕ) (pushed₂ : PushesSecond kind r.a r.b bs₂ bs₃ d within) (same₃ : length bs₃ ≡ length bs₂) where
+              abbrev second : Child
+              second = record { n = next; level = l; depth = within }
 
-  module _ (there : e ≡ 0 → ⊥) where
-    pub goes_third : CanWalk rs bs₀ d e q
-    goes_third = goes t types rs bs bs₀ d l n left q _ _ far bs₀ _ _ _ stands (next_le rs (second_of rs n)) there refl
+              enters₂ : EntersSecond rs bs₂ bs₃ d l n second
+              enters₂ = enters_second rs bs₂ bs₃ d l n within r own can.here kind named next pushed₂ follows
 
-    pub ends_third : (bs₁ : List ℕ) (p : ℕ) → Walks types rs bs₀ bs₁ d l e q p → Walks types rs bs bs₁ d l n left p
-    unfolding from_third
-    ends_third bs₁ p walk =
-        let here = far.can.here in
-        record {
-          tells = far.says (verdict_in p) (rw (← third.is, ← far.kept) walk.tells);
-          counted = λ z. omega (
-            arith,
-            left_after t types rs bs bs₀ d l n left q _ _ far bs₀ _ _ _ stands (next_le rs (second_of rs n)) there bs₁ p walk z,
-            none_after_third rs far.can.chained n here.real here.within,
-          );
-          kept = walk.kept ∙ far.kept;
-        }
+              pub goes_second : CanWalk rs bs₃ within next p
+              goes_second = goes types rs bs bs₂ d l n left p _ _ passes_first bs₃ second _ _ enters₂.enters (next_le rs (first_of rs n)) there₂ same₃
+
+              module _ (bs₄ : List ℕ) (p₂ : ℕ) (walk₂ : Walks types rs bs₃ bs₄ within l next p p₂) where
+                pub stops_second : 65536 ≤ p₂ → Walks types rs bs bs₄ d l n left p₂
+                unfolding from_second
+                stops_second =
+                    stops types rs bs bs₂ d l n left p _ _ passes_first bs₃ second _ _ (rw passes_first.kept at enters₂.enters) (next_le rs (first_of rs n)) there₂ bs₄ p₂ walk₂ _ refl
+
+                -- The third child's tree, which stands where the record itself does.
+                module _ (low₂ : p₂ < 65536) (same₄ : length bs₄ ≡ length bs₃) (e : ℕ) (last : Follows rs next e) where
+                  passes_second : WalkedSoFar types rs bs bs₄ d l n left p₂ (third_of rs n) (from_third types rs (stack bs d) l n)
+                  unfolding from_second
+                  passes_second =
+                      passes types rs bs bs₂ d l n left p _ _ passes_first bs₃ second _ _ (rw passes_first.kept at enters₂.enters) (next_le rs (first_of rs n)) there₂ bs₄ p₂ walk₂ _ refl
+                      (third_nothing types rs (stack bs d) l n) low₂ same₃ same₄
+
+                  third_is : e ≡ third_of rs n
+                  third_is = (its_third rs n r own can.here next e follows last).is
+
+                  pub falls_second : p₂ < left
+                  falls_second = passes_second.falls
+
+                  pub ends_second : e ≡ 0 → Walks types rs bs bs₄ d l n left p₂
+                  ends_second z = ends types rs bs bs₄ d l n left p₂ _ _ passes_second (sym third_is ∙ z)
+
+                  stands : Enters (stack bs₄ d) l (third_of rs n) bs₄ bs₄ d (record { n = e; level = l; depth = d })
+                  stands = record { number = third_is; level = refl; over = refl; kept = refl; above = omega arith; most = omega arith }
+
+                  module _ (there₃ : e ≡ 0 → ⊥) where
+                    pub goes_third : CanWalk rs bs₄ d e p₂
+                    goes_third = goes types rs bs bs₄ d l n left p₂ _ _ passes_second bs₄ _ _ _ stands (next_le rs (second_of rs n)) there₃ refl
+
+                    pub ends_third : (bs₅ : List ℕ) (p₃ : ℕ) → Walks types rs bs₄ bs₅ d l e p₂ p₃ → Walks types rs bs bs₅ d l n left p₃
+                    unfolding from_third
+                    ends_third bs₅ p₃ walk₃ = record {
+                      tells = rw (third_is, passes_second.kept) at walk₃.tells ∙ passes_second.says;
+                      counted = λ low₃. omega (
+                        arith,
+                        left_after types rs bs bs₄ d l n left p₂ _ _ passes_second bs₄ _ _ _ stands (next_le rs (second_of rs n)) there₃ bs₅ p₃ walk₃ low₃,
+                        none_after_third rs can.chained n can.here.real can.here.within,
+                      );
+                      kept = walk₃.kept ∙ passes_second.kept;
+                    }
 
 -- The walk from the root: its tree has all the records.
 pub root_asked : (rs : List Record) (bs : List ℕ) (count : ℕ) → MakeTree rs count → 2 * count ≤ length bs → CanWalk rs bs 0 1 count
@@ -254,9 +268,9 @@ root_asked rs bs count h room =
       room = omega arith;
     }
 
-pub root_told : (types : Table) (rs : List Record) (bs bs' : List ℕ) (count p : ℕ) (v : Verdict) → MakeTree rs count → Walks types rs bs bs' 0 0 1 count p
-    → v ≡ verdict_in p → Tells v (walked count types rs [] 0 1)
+pub root_told : (types : Table) (rs : List Record) (bs bs' : List ℕ) (count p : ℕ) (v : Result Unit Reported) → MakeTree rs count → Walks types rs bs bs' 0 0 1 count p
+    → Unpacks p v → Reports v (walked count types rs [] 0 1)
 unfolding stack
-root_told types rs bs bs' count p v h walk e = rw (e, ← h.all) walk.tells
-
-pub ruleset walking = (packs, passed_number, refused_number, one_left, rest_falls, can_enter, stops_own, passed_enter, passed_read, passed_falls, first_chained, ends_leaf, goes_first, stops_first, ends_first, goes_second, stops_second, ends_second, goes_third, ends_third)
+root_told types rs bs bs' count p v h walk u =
+    let told : refusal_in p ≡ walked count types rs [] 0 1 = rw (← h.all) walk.tells in
+    unpacked p v _ u (walked_of_judging count types rs [] 0 1) told

@@ -13,6 +13,7 @@ use Rattle.rules.specs.Links.{first_of, next_of}
 use Rattle.rules.specs.Check.{walked}
 use Rattle.rules.specs.Refusals.{Refusal, ◌then◌}
 use Rattle.rules.proofs.Generations.{all_generations}
+use Rattle.judging.proofs.Naming.{OfJudging, then_of_judging, judged_of_judging}
 use Rattle.typing.specs.Reading.{second_of, third_of}
 use Rattle.typing.specs.Entering.{kind_no, fields_no}
 use Rattle.typing.specs.Walking.{judged_at}
@@ -60,3 +61,12 @@ module _ (types : Table) (rs : List Record) (Γ : Env) (l n : ℕ) where
   first_nothing e =
       rw (walked_nothing types rs (under l (over_first (kind_no rs n) (fields_no rs n)) Γ) (first_level (kind_no rs n) l) (first_of rs n) e)
       (second_nothing (next_nothing rs (first_of rs n) e))
+
+-- Whatever is refused is refused by a number of judging.
+pub walked_of_judging : (left : ℕ) (types : Table) (rs : List Record) (Γ : Env) (l n : ℕ) → OfJudging (walked left types rs Γ l n)
+unfolding walked
+walked_of_judging zero types rs Γ l n = tt
+walked_of_judging (suc left) types rs Γ l zero = tt
+walked_of_judging (suc left) types rs Γ l (suc m) =
+    then_of_judging _ _ (judged_of_judging _ _ _ _ _ _ _ _ _)
+    (then_of_judging _ _ (walked_of_judging left types rs _ _ _) (then_of_judging _ _ (walked_of_judging left types rs _ _ _) (walked_of_judging left types rs _ _ _)))

@@ -3,17 +3,19 @@
 // is kept.
 #![tactic(auto)]
 
-ghost use Rattle.std.specs.Prelude.{[], ◌∷◌, ◌≡◌, ◌+◌, ◌<◌, ◌≤◌, length};
+ghost use Rattle.std.specs.Prelude.{[], ◌∷◌, ◌+◌, ◌*◌, ◌<◌, ◌≤◌, length};
 ghost use Rattle.rules.specs.Check.{walked};
 ghost use Rattle.records.specs.View.{entries_in, records_in};
-ghost use Rattle.refusals.specs.Tells.{Tells};
+ghost use Rattle.refusals.specs.Reports.{Reports};
 ghost use Rattle.judging.specs.Stack.{stack};
 ghost use Rattle.typing.specs.Reading.{CanRead, IsType, IsThird};
 ghost use Rattle.typing.specs.Pushing.{Pushes, PushesFirst, PushesSecond};
 ghost use Rattle.typing.specs.Entering.{CanEnter, EntersFirst, EntersSecond};
-ghost use Rattle.typing.specs.Walking.{CanReadChildren, JudgesRead, JudgesOwn, verdict_in, Packs, CanWalk, Walks, MakeTree};
+ghost use Rattle.typing.specs.Walking.{CanReadChildren, JudgesRead, Packs, Unpacks, CanWalk, Walks, MakeTree};
 
+use kinds::Kind;
 use records::Record;
+use refusals::Refusal;
 
 // A child of a record, where its tree is walked: its number, its level, and the depth of the binders over it.
 #[derive(Clone, Copy)]
@@ -23,32 +25,25 @@ pub struct Child {
     pub depth: usize,
 }
 
-// What the walk over a tree says is one number, which is handed back in a register: below this how many records are left after the tree, where
-// nothing is refused; else a refusal, its number times this and its place.
+// What the walk over a tree says is one number: below this how many records are left after the tree, where nothing is refused; else a refusal, its
+// number times this and its place. It is handed back in a register: by a `Result` three values came back by memory, and a check took 1.12 times as
+// long.
 const REFUSED: u32 = 65536;
 
 // A refusal as one number.
 fn packed(number: u16, place: u16) -> u32
     requires { 1 ≤ number }
-    ensures { Packs (record { number = number; place = place }) result }
+    ensures { Packs number place result }
 {
     REFUSED * (number as u32) + (place as u32)
 }
 
-// The verdict that such a number holds.
-fn verdict_in(q: u32) -> refusals::Verdict
-    ensures { result ≡ verdict_in q }
+// What such a number says of the tree: well, or the refusal that it holds.
+fn verdict_in(q: u32) -> Result<(), Refusal>
+    ensures { Unpacks q result }
 {
-    if q < REFUSED {
-        return refusals::Verdict {
-            number: 0,
-            place: 0,
-        };
-    }
-    refusals::Verdict {
-        number: (q / REFUSED) as u16,
-        place: (q % REFUSED) as u16,
-    }
+    let place = (q % REFUSED) as u16;
+    judging::judged((q / REFUSED) as u16).map_err(|reason| Refusal { reason, place })
 }
 
 // The written type of record n; 0 for no record.
@@ -63,15 +58,15 @@ fn type_of(records: &[u8], n: u16) -> u16
     r.ty
 }
 
-// The number of the fault of r, one of the records, which is of this kind, or 0. Where the kind is a literal, no more of its children is read than the
-// kind's rules ask.
+// The number of the fault of r, one of the records, which is of this kind and stands at this level under the binders below the depth, or 0. Where
+// the kind is named, no more of its children is read than the kind's rules ask.
 fn judge_as(
     table: &[u8],
     records: &[u8],
     binders: &[u32],
     depth: usize,
     level: u16,
-    kind: u16,
+    kind: Kind,
     r: Record,
 ) -> u16
     requires { CanReadChildren (records_in records.now) binders.now depth r }
@@ -85,28 +80,26 @@ fn judge_as(
     judging::judge(table, binders, depth, level, kind, r, x, y, z)
 }
 
-// The number of the fault of record n itself, which stands at this level under the binders below the depth, or 0. Kinds of which there are many are
-// named, so that each has code of its own.
+// The same. Kinds of which there are many are named, so that each has code of its own.
 fn own_refusal(
     table: &[u8],
     records: &[u8],
     binders: &[u32],
     depth: usize,
     level: u16,
-    n: u16,
+    kind: Kind,
+    r: Record,
 ) -> u16
-    requires { CanEnter (records_in records.now) binders.now depth n }
-    ensures { JudgesOwn (entries_in table.now) (records_in records.now) (stack binders.now depth) level n result }
+    requires { CanReadChildren (records_in records.now) binders.now depth r }
+    ensures { JudgesRead (entries_in table.now) (records_in records.now) (stack binders.now depth) level kind r result }
 {
-    let r = records::record_no(records, n);
-    let kind = r.kind;
     match kind {
-        1 => judge_as(table, records, binders, depth, level, 1, r),
-        2 => judge_as(table, records, binders, depth, level, 2, r),
-        3 => judge_as(table, records, binders, depth, level, 3, r),
-        4 => judge_as(table, records, binders, depth, level, 4, r),
-        7 => judge_as(table, records, binders, depth, level, 7, r),
-        8 => judge_as(table, records, binders, depth, level, 8, r),
+        Kind::Number => judge_as(table, records, binders, depth, level, Kind::Number, r),
+        Kind::Variable => judge_as(table, records, binders, depth, level, Kind::Variable, r),
+        Kind::Function => judge_as(table, records, binders, depth, level, Kind::Function, r),
+        Kind::Application => judge_as(table, records, binders, depth, level, Kind::Application, r),
+        Kind::Quote => judge_as(table, records, binders, depth, level, Kind::Quote, r),
+        Kind::Splice => judge_as(table, records, binders, depth, level, Kind::Splice, r),
         _ => judge_as(table, records, binders, depth, level, kind, r),
     }
 }
@@ -121,22 +114,22 @@ fn push(binders: &mut [u32], depth: usize, level: u16, ty: u16) -> usize
 }
 
 // Binds what a record of this kind binds over its first child, and returns the new depth.
-fn push_first(binders: &mut [u32], depth: usize, kind: u16, level: u16, a: u16) -> usize
+fn push_first(binders: &mut [u32], depth: usize, kind: Kind, level: u16, a: u16) -> usize
     requires { depth + 2 ≤ length binders.old }
     ensures { PushesFirst kind level a binders.old binders.new depth result }
 {
-    if kinds::binders_first(kind) == 0 {
+    if kind.binders_first() == 0 {
         return depth;
     }
     push(binders, depth, level, a)
 }
 
 // Binds what a record of this kind binds over its second child, a then b at level 0, and returns the new depth.
-fn push_second(binders: &mut [u32], depth: usize, kind: u16, a: u16, b: u16) -> usize
+fn push_second(binders: &mut [u32], depth: usize, kind: Kind, a: u16, b: u16) -> usize
     requires { depth + 2 ≤ length binders.old }
     ensures { PushesSecond kind a b binders.old binders.new depth result }
 {
-    let count = kinds::binders_second(kind);
+    let count = kind.binders_second();
     if count == 0 {
         return depth;
     }
@@ -153,10 +146,11 @@ pub fn first_child(records: &[u8], binders: &mut [u32], depth: usize, level: u16
     ensures { EntersFirst (records_in records.now) binders.old binders.new depth level n result }
 {
     let r = records::record_no(records, n);
+    let kind = Kind::of(r.kind);
     Child {
         n: r.first,
-        level: kinds::first_level(r.kind, level),
-        depth: push_first(binders, depth, r.kind, level, r.a),
+        level: kind.first_level(level),
+        depth: push_first(binders, depth, kind, level, r.a),
     }
 }
 
@@ -166,10 +160,11 @@ pub fn second_child(records: &[u8], binders: &mut [u32], depth: usize, level: u1
     ensures { EntersSecond (records_in records.now) binders.old binders.new depth level n result }
 {
     let r = records::record_no(records, n);
+    let kind = Kind::of(r.kind);
     Child {
         n: records::next_of(records, r.first),
         level: level,
-        depth: push_second(binders, depth, r.kind, r.a, r.b),
+        depth: push_second(binders, depth, kind, r.a, r.b),
     }
 }
 
@@ -185,8 +180,8 @@ pub fn third_child(records: &[u8], n: u16) -> u16
 
 // The first fault in the tree of record n, which stands at this level under the binders below the depth, or how many records are left after it, as
 // one number. `left` is how many records are left, and enough for the tree: where it is 0 no tree is entered. The first child's tree gets all but n,
-// the second's what the first's leaves, the third's what that leaves. Whether there is a second is read before the first's tree is walked: a record
-// with one child is not read again after it.
+// the second's what the first's leaves, the third's what that leaves. The record is read once, and whether there is a second child before the first's
+// tree is walked.
 fn walk(
     table: &[u8],
     records: &[u8],
@@ -199,49 +194,51 @@ fn walk(
     requires { CanWalk (records_in records.now) binders.old depth n left }
     ensures { Walks (entries_in table.now) (records_in records.now) binders.old binders.new depth level n left result }
 {
-    let own = own_refusal(table, records, binders, depth, level, n);
+    let r = records::record_no(records, n);
+    let kind = Kind::of(r.kind);
+    let own = own_refusal(table, records, binders, depth, level, kind, r);
     if own != 0 {
         return packed(own, n);
     }
     let rest = left - 1;
-    let c = first_child(records, binders, depth, level, n);
-    if c.n == 0 {
+    if r.first == 0 {
         return rest as u32;
     }
-    let next = records::next_of(records, c.n);
-    let first = walk(table, records, binders, c.depth, c.level, c.n, rest);
-    if REFUSED <= first {
+    let next = records::next_of(records, r.first);
+    let inner = push_first(binders, depth, kind, level, r.a);
+    let under = kind.first_level(level);
+    let first = walk(table, records, binders, inner, under, r.first, rest);
+    if REFUSED <= first || next == 0 {
         return first;
     }
-    if next == 0 {
-        return first;
-    }
-    let s = second_child(records, binders, depth, level, n);
-    let e = third_child(records, n);
-    let second = walk(table, records, binders, s.depth, s.level, s.n, first as u16);
-    if REFUSED <= second {
-        return second;
-    }
-    if e == 0 {
+    let e = records::next_of(records, next);
+    let inner = push_second(binders, depth, kind, r.a, r.b);
+    let second = walk(table, records, binders, inner, level, next, first as u16);
+    if REFUSED <= second || e == 0 {
         return second;
     }
     walk(table, records, binders, depth, level, e, second as u16)
 }
 
-// The first fault in the tree of record 1, the root, at level 0 under no binders. A smaller program has a smaller stack, which is sooner
-// cleared.
-pub fn types_refusal(table: &[u8], records: &[u8], count: u16) -> refusals::Verdict
-    requires { MakeTree (records_in records.now) count }
-    ensures { Tells result (walked count (entries_in table.now) (records_in records.now) [] 0 1) }
+// The first fault in the tree of record 1, the root, at level 0 under no binders. There is room for N binders, two of each record.
+fn root_refusal<const N: usize>(table: &[u8], records: &[u8], count: u16) -> Result<(), Refusal>
+    requires whole { MakeTree (records_in records.now) count }
+    requires room { 2 * count ≤ N }
+    requires small { N ≤ 4096 }
+    ensures { Reports result (walked count (entries_in table.now) (records_in records.now) [] 0 1) }
 {
-    if count <= 64 {
-        let mut few = [0u32; 128];
-        return verdict_in(walk(table, records, &mut few, 0, 0, 1, count));
-    }
-    if count <= 512 {
-        let mut some = [0u32; 1024];
-        return verdict_in(walk(table, records, &mut some, 0, 0, 1, count));
-    }
-    let mut binders = [0u32; 4096];
+    let mut binders = [0u32; N];
     verdict_in(walk(table, records, &mut binders, 0, 0, 1, count))
+}
+
+// The same. A smaller program has a smaller stack, which is sooner cleared.
+pub fn types_refusal(table: &[u8], records: &[u8], count: u16) -> Result<(), Refusal>
+    requires { MakeTree (records_in records.now) count }
+    ensures { Reports result (walked count (entries_in table.now) (records_in records.now) [] 0 1) }
+{
+    match count {
+        0..=64 => root_refusal::<128>(table, records, count),
+        65..=512 => root_refusal::<1024>(table, records, count),
+        _ => root_refusal::<4096>(table, records, count),
+    }
 }

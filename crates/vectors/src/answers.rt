@@ -4,24 +4,22 @@ ghost use Rattle.std.specs.Prelude.{◌<◌};
 use engine::{InferAnswer, RunAnswer};
 use std::io;
 
-// A byte, as a wider number.
-fn wide(x: u8) -> u64
-    ensures { result < 256 }
-{
-    x as u64
+// The 16-bit number at `at` of the bytes, or 0 where there is none.
+fn number_at(bytes: &[u8], at: usize) -> u16 {
+    match bytes.get(at..) {
+        Some([low, high, ..]) => u16::from_le_bytes([*low, *high]),
+        _ => 0,
+    }
 }
 
-// The 16-bit number at `at` of the bytes, or 0 beyond their end.
-fn number_at(bytes: &[u8], at: usize) -> u64
-    ensures { result < 65536 }
-{
-    if bytes.len() <= at {
-        return 0;
+// The same of 32 bits.
+fn long_number_at(bytes: &[u8], at: usize) -> u32 {
+    match bytes.get(at..) {
+        Some([first, second, third, fourth, ..]) => {
+            u32::from_le_bytes([*first, *second, *third, *fourth])
+        }
+        _ => 0,
     }
-    if bytes.len() - at < 2 {
-        return 0;
-    }
-    wide(bytes[at]) + 256 * wide(bytes[at + 1])
 }
 
 // The line of type entry n, which stands at `at`.
@@ -48,14 +46,14 @@ fn print_record(rt: &impl Print, bytes: &[u8], at: usize, n: u16) -> io::Result<
         number_at(bytes, at + 6),
         number_at(bytes, at + 8),
         number_at(bytes, at + 10),
-        number_at(bytes, at + 12) + 65536 * number_at(bytes, at + 14)
+        long_number_at(bytes, at + 12)
     )
 }
 
 // The lines of the type entries of a written program.
 fn print_entries(rt: &impl Print, bytes: &[u8], types: u16) -> io::Result<()> {
     for i in 0..types {
-        print_entry(rt, bytes, 4 + 6 * (i as usize), i + 1)?;
+        print_entry(rt, bytes, 4 + 6 * usize::from(i), i + 1)?;
     }
     Ok(())
 }
@@ -63,7 +61,7 @@ fn print_entries(rt: &impl Print, bytes: &[u8], types: u16) -> io::Result<()> {
 // The lines of its records, after so many entries.
 fn print_records(rt: &impl Print, bytes: &[u8], types: u16, count: u16) -> io::Result<()> {
     for i in 0..count {
-        let at = 4 + 6 * (types as usize) + 16 * (i as usize);
+        let at = 4 + 6 * usize::from(types) + 16 * usize::from(i);
         print_record(rt, bytes, at, i + 1)?;
     }
     Ok(())
@@ -71,8 +69,8 @@ fn print_records(rt: &impl Print, bytes: &[u8], types: u16, count: u16) -> io::R
 
 // The lines of a written program's type table and records.
 fn print_program(rt: &impl Print, bytes: &[u8]) -> io::Result<()> {
-    let types = number_at(bytes, 0) as u16;
-    let count = number_at(bytes, 2) as u16;
+    let types = number_at(bytes, 0);
+    let count = number_at(bytes, 2);
     print_entries(rt, bytes, types)?;
     print_records(rt, bytes, types, count)
 }
@@ -116,10 +114,10 @@ pub fn print_run(rt: &impl Print, input: &[u8]) -> io::Result<()> {
     if input.len() < 4 {
         return Ok(());
     }
-    let fuel = number_at(input, 0) + 65536 * number_at(input, 2);
+    let fuel = long_number_at(input, 0);
     let mut output = [0u8; engine::OUTPUT];
     let mut work = [0u8; engine::WORK];
-    let answer = engine::run(&input[4..], fuel as u32, &mut output, &mut work);
+    let answer = engine::run(&input[4..], fuel, &mut output, &mut work);
     print_ran(rt, &answer)?;
     if answer.number == 0 {
         print_program(rt, &output)?;

@@ -8,43 +8,48 @@ use reading::INPUT;
 use std::rt::Files;
 use std::{fs, io};
 
-// What is printed of an input.
-#[derive(Clone, Copy)]
-enum Text {
-    Listing,
-    Infer,
-    Run,
-}
-
-fn print_input(rt: &impl Print, input: &[u8], text: Text) -> io::Result<()> {
-    match text {
-        Text::Listing => printing::print_listing(rt, input),
-        Text::Infer => answers::print_infer(rt, input),
-        Text::Run => answers::print_run(rt, input),
-    }
-}
-
-fn print_file(rt: &(impl Files + Print), name: &str, text: Text) -> io::Result<()> {
+// Prints the name of the file, and of its input what `print` prints.
+fn print_file<R: Files + Print, F: Fn(&[u8]) -> io::Result<()>>(
+    rt: &R,
+    name: &str,
+    print: &F,
+) -> io::Result<()>
+    requires { F.IsAlwaysCallable print.now }
+{
     let mut input = [0u8; INPUT];
     let n = reading::read_file(rt, name, &mut input)?;
     rt.println(name)?;
-    print_input(rt, &input[..n], text)
+    print(&input[..n])
 }
 
-fn print_files(rt: &(impl Files + Print), names: &str, text: Text) -> io::Result<()> {
+// The same of each file that the text names, one name to a line.
+fn print_files<R: Files + Print, F: Fn(&[u8]) -> io::Result<()>>(
+    rt: &R,
+    names: &str,
+    print: F,
+) -> io::Result<()>
+    requires { F.IsAlwaysCallable print }
+{
     for name in names.lines() {
-        print_file(rt, name, text)?;
+        print_file(rt, name, &print)?;
     }
     Ok(())
 }
 
-fn print_list(rt: &(impl Files + Alloc + Print), list: &str, text: Text) -> io::Result<()> {
+// The same of each file that the file `list` names.
+fn print_list<R: Files + Alloc + Print, F: Fn(&[u8]) -> io::Result<()>>(
+    rt: &R,
+    list: &str,
+    print: F,
+) -> io::Result<()>
+    requires { F.IsAlwaysCallable print }
+{
     let names = fs::read_to_string(rt, list)?;
-    print_files(rt, names.as_str(), text)
+    print_files(rt, names.as_str(), print)
 }
 
 fn main(rt: HostRuntime) -> io::Result<()> {
-    print_list(&rt, "names", Text::Listing)?;
-    print_list(&rt, "infers", Text::Infer)?;
-    print_list(&rt, "runs", Text::Run)
+    print_list(&rt, "names", |input| printing::print_listing(&rt, input))?;
+    print_list(&rt, "infers", |input| answers::print_infer(&rt, input))?;
+    print_list(&rt, "runs", |input| answers::print_run(&rt, input))
 }

@@ -1,7 +1,7 @@
--- The laws of `write_tree`: the root, and a loop that writes its children one after another. `writing_tree` for search. Assumes nothing.
+-- The laws of `write_tree`: the root, and a loop that writes its children one after another. Assumes nothing.
 use Prim.Native.Nat.{ℕ, ◌+◌, ◌-◌, ◌*◌, ◌^◌, ◌≤◌, ◌<◌}
 use native.Mathlib.Omega.{arith}
-use mathlib.Core.Path.{◌≡◌, refl, ap, ◌∙◌}
+use mathlib.Core.Path.{◌≡◌, refl, ap, ap₂, ◌∙◌}
 use mathlib.Core.List.{List, [], ◌∷◌}
 use lib.ListN.{length}
 use mir.Syntax.{w16, w64}
@@ -80,13 +80,13 @@ module _ (ws : List Record) (i : ℕ) (s : List ℕ) (st : Writer) where
           short = omega (arith, h.short);
         })
 
-    pub children_left : CanWrite ws i s st → Writing ws (i + 1) s₁ st₁ n s₁ st₁ n (i + 1)
-    children_left h = record {
+    pub children_left : (left : ℕ) → left ≡ n → CanWrite ws i s st → Writing ws (i + 1) s₁ st₁ n s₁ st₁ left (i + 1)
+    children_left left e h = rw e (record {
       begun = omega arith;
       all = λ ts r. record { trees = ts; are = record { row = r; number = refl; long = refl; whole = λ s'' q. q } };
       trees = kids h.tree;
       row = root_row h.tree h.can;
-    }
+    })
 
     -- None is left: the tree is written.
     pub all_written : (s' : List ℕ) (st' : Writer) (left at : ℕ) → Writing ws (i + 1) s₁ st₁ n s' st' left at → left ≤ 0 → Writes ws i s s' st next st'
@@ -170,15 +170,15 @@ module _ (ws : List Record) (from : ℕ) (s : List ℕ) (st : Writer) (many : �
     pub child_numbered : st'.number + (end - at) < 65536
     child_numbered = omega (arith, sk.is next_turn.child next_turn.can.there, next_turn.can.few)
 
-    pub child_written : (link : ℕ) → link ≡ link_to (left - 1) (st'.number + (end - at)) → (s'' : List ℕ) (r : Writer) → Writes ws at s' s'' st' link r
-        → Writing ws from s st many s'' r (left - 1) end
-    child_written link e s'' r w = record {
+    pub child_written : (rest after link : ℕ) → rest ≡ left - 1 → after ≡ left - 1 → link ≡ link_to after (st'.number + (end - at)) → (s'' : List ℕ) (r : Writer) → Writes ws at s' s'' st' link r
+        → Writing ws from s st many s'' r rest end
+    child_written rest after link less same e s'' r w = record {
       begun = omega (arith, p.begun, child_down);
       all = λ ts h.
           let v = turn ts h in
           let y = sk.is v.child v.can.there in
           let x : st'.number + (end - at) ≡ st'.number + size v.child = omega arith in
-          rw y (v.goes s'' r (rw (e ∙ ap (link_to (left - 1)) x) at (w.does v.child v.can)));
+          rw (less, y) (v.goes s'' r (rw (e ∙ ap₂ link_to same x) at (w.does v.child v.can)));
       trees = p.trees;
       row = p.row;
     }
@@ -191,5 +191,3 @@ module _ (w : List ℕ) (i : ℕ) (s : List ℕ) (st : Writer) (h : CanWrite (re
   pub child_falls : (m : ℕ) → length w - i ≡ m → (s₁ : List ℕ) (st₁ : Writer) (many : ℕ) (s' : List ℕ) (st' : Writer) (left at : ℕ) → Writing (records_in w) (i + 1) s₁ st₁ many s' st' left at
       → length w - at < m
   child_falls m e s₁ st₁ many s' st' left at p = omega (arith, records_room w i (root_read (records_in w) i s st h), p.begun)
-
-pub ruleset writing_tree = (can_put, children_left, place_fits, child_tree, child_can, child_down, child_fits, child_numbered, child_written, child_falls, all_written)

@@ -11,6 +11,8 @@ ghost use Rattle.writing.specs.State.{CanPutRecord, PutsRecord};
 ghost use Rattle.writing.specs.Tree.{CanWrite, Writes};
 ghost use Rattle.writing.specs.Program.{CanWriteRecords, WritesRecords, CanWriteProgram, WritesProgram};
 
+use kinds::Kind;
+
 // What is written next: the number of the next record, and the bytes written so far. Only `put` moves it on.
 #[derive(Clone, Copy)]
 pub struct Writer {
@@ -33,7 +35,7 @@ fn write_head(w: &[u8], i: usize, out: &mut [u8], number: u16, next: u16) -> u16
     ensures { Heads (records_in w.now) i out.old number next out.new result }
 {
     let mut r = records::get(w, i);
-    let children = kinds::children(r.kind);
+    let children = Kind::of(r.kind).children();
     r.first = link(children, number, 1);
     r.next = next;
     records::put(out, (number - 1) as usize, r);
@@ -76,10 +78,9 @@ pub fn write_tree(w: &[u8], i: usize, out: &mut [u8], state: Writer, next: u16) 
 {
     let root = put_record(w, i, out, state, next);
     let mut done = root.state;
-    let mut left = root.children;
     let mut at = i + 1;
-    while 0 < left {
-        left -= 1;
+    for child in 0..root.children {
+        let left = root.children - 1 - child;
         let after = terms::skip(w, at);
         let sibling = link(left, done.number, (after - at) as u16);
         done = write_tree(w, at, out, done, sibling);
@@ -93,11 +94,7 @@ pub fn copy_bytes(from: &[u8], out: &mut [u8], at: usize)
     requires { at + length from.now ≤ length out.old }
     ensures { out.new ≡ overwritten out.old at from.now }
 {
-    let mut i = 0;
-    while i < from.len() {
-        out[at + i] = from[i];
-        i += 1;
-    }
+    out[at..at + from.len()].copy_from_slice(from);
 }
 
 // Writes the records of the tree at `i` from byte `start` on, and tells where they end.

@@ -7,11 +7,12 @@ use mathlib.Core.Path.{◌≡◌, ap, ◌∙◌}
 use lib.ListN.{length, get_or, set}
 use mir.Syntax.{w16}
 use mir.Val.{Fits}
-use Rattle.rules.specs.Kinds.{kind_number, kind_of}
-use Rattle.rules.specs.Terms.{Term, root_kind, size}
+use Rattle.rules.specs.Kinds.{kind_number}
+use Rattle.rules.specs.Terms.{Term, size}
 use Rattle.rules.specs.Typing.{first_level}
 use Rattle.rules.specs.Format.{Record, no_record}
-use Rattle.rules.proofs.KindTable.{kind_back}
+use Rattle.kinds.specs.declared.names.Kind.{Kind}
+use Rattle.kinds.specs.Named.{kind_meant}
 use Rattle.terms.specs.Preorder.{puts, part, head}
 use Rattle.terms.specs.Moves.{CanMove, Moved}
 use Rattle.terms.specs.Children.{sizes, preorders}
@@ -20,11 +21,12 @@ use Rattle.contexts.specs.Sides.{top_place}
 use Rattle.contexts.proofs.Contexts.{root_filled}
 use Rattle.contexts.proofs.Sides.{size_filled}
 use Rattle.zipper.specs.declared.focus.Ahead.{Ahead}
-use Rattle.terms.specs.Measuring.{Relinks, KindIs}
+use Rattle.terms.specs.Measuring.{Relinks, HasKind, KindIs}
 use Rattle.zipper.specs.Layout.{chained}
 use Rattle.zipper.specs.Focusing.{HasTrees, SkipsAll, AheadAt, CanOpen, Opens}
 use Rattle.terms.proofs.There.{there_head}
-use Rattle.terms.proofs.Trees.{at_first, kind_read}
+use Rattle.terms.proofs.Trees.{kind_at}
+use Rattle.terms.proofs.Readings.{tree_kind}
 use Rattle.zipper.proofs.Opened.{before_there, taken_there, root_opened_right}
 
 -- The innermost frame's record is on the left side.
@@ -34,8 +36,8 @@ top_low [] = omega arith
 top_low (F ∷ C) = omega arith
 
 module _ (rs : List Record) (a : Ahead) (j : ℕ) where
-  pub open_root : CanOpen rs a j → a.r < length rs
-  open_root h = at_first rs a.r (fill h.frame h.inner) (record { there = h.laid.focus })
+  pub open_root : CanOpen rs a j → HasKind rs a.r
+  open_root h = tree_kind rs a.r (record { tree = fill h.frame h.inner; there = record { there = h.laid.focus } })
 
   pub open_trees : CanOpen rs a j → HasTrees rs (a.r + 1) j
   open_trees h = record { trees = children_before h.frame; count = h.hole; there = before_there rs h.frame h.inner a.r h.laid.focus }
@@ -72,7 +74,7 @@ module _ (rs : List Record) (a : Ahead) (j : ℕ) where
       pub open_in : CanOpen rs a j → a.l < length rs₁
       open_in h = (root_taken h.frame h.context h.inner h.laid h.hole).0
 
-      module _ (k lv : ℕ) (kd : KindIs rs a.r k) (v : lv ≡ first_level (kind_of k) a.level) (rs₂ : List Record) (p : Relinks rs₁ rs₂ a.l a.top 0) where
+      module _ (k : Kind) (lv : ℕ) (kd : KindIs rs a.r k) (v : lv ≡ first_level (kind_meant k) a.level) (rs₂ : List Record) (p : Relinks rs₁ rs₂ a.l a.top 0) where
         abbrev opened : Ahead
         opened = record { l = a.l + (start - a.r); r = start; top = a.l; level = lv }
 
@@ -91,7 +93,7 @@ module _ (rs : List Record) (a : Ahead) (j : ℕ) where
 
         hole_level_lem : (F : Frame) (C : Context) (t : Term) → AheadAt rs a C (fill F t) → lv ≡ hole_level F a.level
         hole_level_lem F C t h = v ∙ ap (λ y. first_level y a.level)
-            (ap kind_of (kd.is ∙ kind_read rs a.r (fill F t) (record { there = h.focus })) ∙ kind_back (root_kind (fill F t)) ∙ (root_filled F t).0)
+            (kd.is ∙ kind_at rs a.r (fill F t) (record { there = h.focus }) ∙ (root_filled F t).0)
 
         pub open_does : Opens rs rs₂ a j opened
         open_does = record { does = opens; level = hole_level_lem; place = start_is }

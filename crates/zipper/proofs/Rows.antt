@@ -4,20 +4,22 @@ use native.Mathlib.Omega.{arith}
 use mathlib.Core.List.{List, [], ◌∷◌}
 use mathlib.Core.Path.{◌≡◌, refl, sym, ap, ◌∙◌, subst}
 use lib.ListN.{length, get_or}
-use mir.Syntax.{w16, w64}
+use mir.Syntax.{w64}
 use mir.Val.{Fits}
 use Rattle.rules.specs.Kinds.{child_count, kind_of}
 use Rattle.rules.specs.Terms.{Term, size}
 use Rattle.rules.specs.Format.{Record, no_record}
-use Rattle.rules.proofs.KindTable.{kind_back}
+use Rattle.rules.proofs.KindTable.{kind_back, kind_range}
 use Rattle.rules.proofs.Laid.{size_some}
+use Rattle.kinds.specs.declared.names.Kind.{Kind}
+use Rattle.kinds.specs.Named.{kind_meant}
 use Rattle.records.specs.View.{records_in}
 use Rattle.records.proofs.Records.{records_length}
 use Rattle.terms.specs.Children.{sizes, preorders}
 use Rattle.contexts.specs.Contexts.{Frame, only, first, second, first₃, second₃, third₃, frame_kind, children_before, children_after, Context}
 use Rattle.zipper.specs.declared.focus.Focus.{Focus}
 use Rattle.terms.specs.Preorder.{There, At, HasTree, Skips}
-use Rattle.terms.specs.Measuring.{KindIs}
+use Rattle.terms.specs.Measuring.{HasKind, KindIs}
 use Rattle.zipper.specs.Focusing.{LinkIs, HasTrees, SkipsAll, LaidAt, HasFrame, CountsAfter}
 use Rattle.terms.proofs.Trees.{first_tree, later_trees}
 use Rattle.zipper.proofs.Places.{at_start, frame_read, siblings}
@@ -57,9 +59,6 @@ module _ (rs : List Record) (i n at j : ℕ) (h : Skipping rs i n at j) where
           let q = sk.is u (first_tree rs at u us g) in
           record { rest = us; there = subst (λ x. There rs x (preorders us)) (sym q) (later_trees rs at u us g); count = omega arith; place = omega arith }
 
-  pub skip_count : j < n → n < 65536 → Fits w16 (j + 1)
-  skip_count l b = omega arith
-
   pub skip_ends : n ≤ j → SkipsAll rs i n at
   unfolding sizes
   skip_ends l = record { is = λ ts c g. let q = h.all ts c g in go ts q.rest q.count q.place }
@@ -68,7 +67,7 @@ module _ (rs : List Record) (i n at j : ℕ) (h : Skipping rs i n at j) where
       go ts [] o p = omega arith
       go ts (u ∷ us) o p = absurd (omega arith)
 
-pub ruleset skipping = (skip_starts, skip_tree, skip_next, skip_count, skip_ends)
+pub ruleset skipping = (skip_starts, skip_tree, skip_next, skip_ends)
 
 -- `children_after`: the children before the hole from `at` on are left.
 pub children_counted : (F : Frame) → child_count (frame_kind F) ≡ length (children_before F) + 1 + length (children_after F)
@@ -92,14 +91,21 @@ pub record Counting (rs : List Record) (z : Focus) (at left : ℕ) : Type 0 wher
 pub frame_in : (rs : List Record) (z : Focus) → HasFrame rs z → z.top < length rs
 frame_in rs z h = (frame_read rs h.frame h.context z.s z.r z.top h.laid.around).0
 
+-- A frame's record has a known kind.
+pub frame_known : (rs : List Record) (z : Focus) → HasFrame rs z → HasKind rs z.top
+frame_known rs z h = record {
+  within = frame_in rs z h;
+  known = rw ((frame_read rs h.frame h.context z.s z.r z.top h.laid.around).1) (kind_range (frame_kind h.frame));
+}
+
 pub frame_fits : (s : List ℕ) (z : Focus) → HasFrame (records_in s) z → length s < 2 ^ 64 → Fits w64 (z.top + 1)
 frame_fits s z h b = omega (arith, frame_in (records_in s) z h, records_length s)
 
-module _ (rs : List Record) (z : Focus) (k c : ℕ) (kd : KindIs rs z.top k) (n : c ≡ child_count (kind_of k)) where
+module _ (rs : List Record) (z : Focus) (k : Kind) (c : ℕ) (kd : KindIs rs z.top k) (n : c ≡ child_count (kind_meant k)) where
   pub counted : (F : Frame) (C : Context) (t : Term) → LaidAt rs z (F ∷ C) t → c ≡ length (children_before F) + 1 + length (children_after F)
   counted F C t h =
       let e = (frame_read rs F C z.s z.r z.top h.around).1 in
-      n ∙ ap child_count (ap kind_of (kd.is ∙ ap (λ x. x.kind) e) ∙ kind_back (frame_kind F)) ∙ children_counted F
+      n ∙ ap child_count (kd.is ∙ ap (λ x. kind_of x.kind) e ∙ kind_back (frame_kind F)) ∙ children_counted F
 
   pub count_some : HasFrame rs z → 1 ≤ c
   count_some h = omega (arith, counted h.frame h.context h.focus h.laid)
@@ -161,4 +167,4 @@ module _ (rs : List Record) (z : Focus) (at left : ℕ) (h : Counting rs z at le
       go F [] p o = omega arith
       go F (u ∷ us) p o = absurd (omega (arith, size_some u))
 
-pub ruleset counting = (frame_in, frame_fits, count_some, count_starts, count_tree, count_left, count_falls, count_next, count_ends)
+pub ruleset counting = (frame_known, frame_fits, count_some, count_starts, count_tree, count_left, count_falls, count_next, count_ends)

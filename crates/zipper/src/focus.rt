@@ -4,7 +4,7 @@ ghost use Rattle.std.specs.Prelude.{◌<◌, length};
 ghost use Rattle.records.specs.View.{records_in};
 ghost use Rattle.zipper.specs.Focusing.{LinkIs, HasTrees, SkipsAll, HasFrame, CountsAfter, CanClose, Closes, CanCloseAll, ClosesAll, HasAhead, Brings, CanOpen, Opens};
 
-use terms::{kind_at, mark_root, relink, skip};
+use terms::{mark_root, relink, root_kind, skip};
 
 // A focus before the gap: the records from `s` to `l`. The right side stands from `r` on, and the innermost frame's record is at `top`.
 #[derive(Clone, Copy)]
@@ -34,26 +34,26 @@ pub fn link_at(w: &[u8], i: usize) -> usize
 }
 
 // The place after `n` trees that stand one after another from `i` on.
+#[tactic(auto, using(crate::proofs::Rows::skipping))]
 pub fn skip_all(w: &[u8], i: usize, n: u16) -> usize
     requires { HasTrees (records_in w.now) i n }
     ensures { SkipsAll (records_in w.now) i n result }
 {
     let mut at = i;
-    let mut j: u16 = 0;
-    while j < n {
+    for _ in 0..n {
         at = skip(w, at);
-        j += 1;
     }
     at
 }
 
 // How many children the innermost frame has after its hole: those that don't stand between its record and the focus, which is one itself.
+#[tactic(auto, using(crate::proofs::Rows::counting))]
 pub fn children_after(w: &[u8], z: Focus) -> u16
     requires { HasFrame (records_in w.now) z }
     ensures { CountsAfter (records_in w.now) z result }
 {
-    let kind = kind_at(w, z.top);
-    let mut left = kinds::children(kind) - 1;
+    let kind = root_kind(w, z.top);
+    let mut left = kind.children() - 1;
     let mut at = z.top + 1;
     while at < z.s {
         at = skip(w, at);
@@ -113,14 +113,15 @@ pub fn bring(w: &mut [u8], a: Ahead) -> Focus
 }
 
 // Makes a frame of the focus's root, with its child `j`, counted from 0, in the hole: the root and the children before the hole go over the gap.
+#[tactic(auto, using(crate::proofs::Opening::opening))]
 pub fn open_ahead(w: &mut [u8], a: Ahead, j: u16) -> Ahead
     requires { CanOpen (records_in w.old) a j }
     ensures { Opens (records_in w.old) (records_in w.new) a j result }
 {
     let l = a.l;
     let r = a.r;
-    let kind = kind_at(w, r);
-    let level = kinds::first_level(kind, a.level);
+    let kind = root_kind(w, r);
+    let level = kind.first_level(a.level);
     let start = skip_all(w, r + 1, j);
     let n = start - r;
     terms::copy_flat(w, r, l, n);

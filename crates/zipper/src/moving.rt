@@ -13,12 +13,9 @@ fn copy_up(w: &mut [u8], src: usize, dst: usize, n: usize)
     if src == dst {
         return;
     }
-    let mut i = n;
-    while 0 < i {
-        let at = i - 1;
-        let r = records::get(w, src + at);
-        records::put(w, dst + at, r);
-        i -= 1;
+    for i in (0..n).rev() {
+        let r = records::get(w, src + i);
+        records::put(w, dst + i, r);
     }
 }
 

@@ -1,10 +1,10 @@
 -- `listings::listing_by`: fuel cut short, the run's refusal, or the records of its last term. Assumes nothing.
-use Rattle.std.proofs.Common.{rules, ◌+◌, ◌*◌, ◌≤◌, length, arith}
+use Rattle.std.proofs.Common.{rules, ◌∙◌, ◌+◌, ◌*◌, ◌≤◌, length, arith}
 use Rattle.listings.proofs.Showing.{showing}
 use Rattle.listings.proofs.listing_by.Goals as goal
 
 pub returns-then-input-lt4 : goal.returns-then-input-lt4
-returns-then-input-lt4 c = search (showing, rules)
+returns-then-input-lt4 c = let number = c.from.ensures ∙ c.number.ensures in search (showing, rules)
 
 pub returns-then-number-ne0 : goal.returns-then-number-ne0
 returns-then-number-ne0 c = search showing

@@ -1,0 +1,13 @@
+-- What the closure ensures of each record's test is handed to `lowest_found`.
+use Rattle.rules.specs.Format.{record_no}
+use Rattle.kinds.specs.Meant.{edition_meant, type_fields_meant}
+use Rattle.records.specs.View.{entries_in, records_in}
+use Rattle.refusals.proofs.Reporting.{lowest_found}
+use Rattle.fields.specs.Fields.{FieldsTested}
+use Rattle.fields.proofs.fields_refusal.Goals as goal
+
+pub returns : goal.returns
+returns c =
+    let a = c.args in
+    lowest_found _ (λ n b. FieldsTested (type_fields_meant a.given) (edition_meant a.edition) a.types (record_no (records_in a.records.now) n) b) _ _ _
+    (λ n b p q h. h.is (entries_in a.table.now) c.requires.entries) c.lowest_refusal.ensures

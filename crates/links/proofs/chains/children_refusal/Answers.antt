@@ -1,0 +1,10 @@
+-- What the closure ensures of each record's test is handed to `lowest_found`.
+use Rattle.std.proofs.Common.{◌≡◌}
+use Rattle.rules.specs.Conditions.{holds}
+use Rattle.rules.specs.Check.{children_rule}
+use Rattle.records.specs.View.{records_in}
+use Rattle.refusals.proofs.Reporting.{lowest_found}
+use Rattle.links.proofs.chains.children_refusal.Goals as goal
+
+pub returns : goal.returns
+returns c = lowest_found _ (λ n b. b ≡ holds (children_rule (records_in c.args.records.now) n)) _ _ _ (λ n b p q h. h) c.lowest_refusal.ensures
