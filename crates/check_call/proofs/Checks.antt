@@ -18,25 +18,19 @@ use Rattle.records.specs.View.{records_in}
 use Rattle.records.specs.Meant.{record_meant}
 use Rattle.records.specs.declared.Record.{Record}
 use Rattle.records.proofs.Program.{layout_records_slice, layouts}
-use Rattle.refusals.specs.declared.Verdict.{Verdict}
-use Rattle.refusals.specs.Tells.{shown, Tells}
-use Rattle.refusals.proofs.Laws.{no_number}
 
-module _ (p : List ℕ) (e : Edition) (first : edition_meant e ≡ first_edition) (f : Verdict) (told : Tells f (refusal (edition_meant e) p)) where
-  t : Tells f (refusal first_edition p)
-  t = rw first at told
-
-  pub check_refused : (f.number ≡ 0 → ⊥) → failing f.number f.place ≡ check_answer first_edition p
-  unfolding check_answer shown
-  check_refused n = go (refusal first_edition p) t.is
+module _ (p : List ℕ) (e : Edition) (first : edition_meant e ≡ first_edition) where
+  pub check_refused : (m : Refusal) → some m ≡ refusal (edition_meant e) p → failing m.number m.place ≡ check_answer first_edition p
+  unfolding check_answer
+  check_refused m told = go (refusal first_edition p) (rw first at told)
     where
-      go : (o : Option Refusal) → f ≡ shown o → failing f.number f.place
+      go : (o : Option Refusal) → some m ≡ o → failing m.number m.place
           ≡ elim o [ none ↦ passing (type_no (records_of p) 1) (record_count p) | some r ↦ failing r.number r.place ]
-      go none e = absurd (n (ap (λ x. x.number) e))
-      go (some r) e = ap (λ x. failing x.number x.place) e
+      go none t = cc
+      go (some r) t = let q : m ≡ r = cc in ap (λ x. failing x.number x.place) q
 
-  pub check_meets : f.number ≡ 0 → Meets first_edition p
-  check_meets z = (exactly first_edition p).0 (no_number f (refusal first_edition p) t z)
+  pub check_meets : none ≡ refusal (edition_meant e) p → Meets first_edition p
+  check_meets told = (exactly first_edition p).0 (sym (rw first at told))
 
 module _ (p : List ℕ) (meets : Meets first_edition p) where
   module _ (T : ℕ) (eT : T ≡ type_count p) where
@@ -52,4 +46,4 @@ module _ (p : List ℕ) (meets : Meets first_edition p) where
   pub check_passed : (root R : ℕ) → root ≡ type_no (records_of p) 1 → R ≡ record_count p → passing root R ≡ check_answer first_edition p
   check_passed root R e eR = ap₂ passing e eR ∙ sym (answered first_edition p ((exactly first_edition p).1 meets))
 
-pub ruleset checking = (layouts, check_refused, check_meets, passing_root, root_told, check_passed)
+pub ruleset checking = (layouts, passing_root, root_told, check_passed)

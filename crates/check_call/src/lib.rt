@@ -4,9 +4,12 @@
 ghost use Rattle.std.specs.Prelude.{◌≡◌};
 ghost use Rattle.rules.specs.Editions.{first_edition};
 ghost use Rattle.rules.specs.Format.{records_of};
-ghost use Rattle.rules.specs.Check.{type_no, check_answer};
+ghost use Rattle.rules.specs.Check.{type_no, failing, check_answer};
 ghost use Rattle.rules.specs.Meets.{Meets};
+ghost use Rattle.refusals.specs.Reports.{reason_number};
 ghost use Rattle.check_call.specs.Answers.{check_meant};
+
+use refusals::Refusal;
 
 // What check says of a program: passed, with number and place 0, the root's type and the number of records; or refused, with document 01's
 // number and place and the other fields 0.
@@ -20,19 +23,14 @@ pub struct CheckAnswer {
 }
 
 // Checks a program of any bytes.
+#[tactic(auto, using(crate::proofs::Checks::check_meets, crate::proofs::Checks::check_refused))]
 pub fn check(program: &[u8]) -> CheckAnswer
     ensures { check_meant result ≡ check_answer first_edition program.now }
 {
-    let verdict = checker::program_refusal(program, kinds::first_edition());
-    if verdict.number != 0 {
-        return CheckAnswer {
-            number: verdict.number as u32,
-            place: verdict.place as u32,
-            root_type: 0,
-            records: 0,
-        };
+    match checker::program_refusal(program, kinds::first_edition()) {
+        Ok(()) => passed(program),
+        Err(refusal) => refused(refusal),
     }
-    passed(program)
 }
 
 // The root's type of a program that is passed.
@@ -58,5 +56,17 @@ fn passed(program: &[u8]) -> CheckAnswer
         place: 0,
         root_type: root as u32,
         records: count as u32,
+    }
+}
+
+// The answer for a program that is refused.
+fn refused(refusal: Refusal) -> CheckAnswer
+    ensures { check_meant result ≡ failing (reason_number refusal.reason) refusal.place }
+{
+    CheckAnswer {
+        number: refusal.reason.number() as u32,
+        place: refusal.place as u32,
+        root_type: 0,
+        records: 0,
     }
 }

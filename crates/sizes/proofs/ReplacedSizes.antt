@@ -1,6 +1,6 @@
 -- `replaced_fits`: whether a tree has room once its variables are replaced, by a bound or by a count. `fitting` for search.
 use Prim.Native.Nat.{ℕ, zero, suc, ◌+◌, ◌-◌, ◌*◌, ◌≤◌, ◌<◌, max}
-use native.Mathlib.Nat.{mul_comm, mul-le-mul}
+use native.Mathlib.Nat.{mul_comm}
 use native.Mathlib.Omega.{arith}
 use native.Mathlib.Decide.{dec_lt}
 use mathlib.Core.List.{List, [], ◌∷◌}
@@ -9,19 +9,16 @@ use mathlib.Core.Path.{◌≡◌, refl, sym, ap, ◌∙◌}
 use lib.Dec.{T, eqb, leb, leb→le}
 use lib.ListN.{length, get_or}
 use borrow.Author.Tests.{lt-ltb, le-ltb, lt-leb, le-leb}
-use mir.Syntax.{w64}
-use mir.Val.{Fits}
 use Rattle.rules.specs.Lists.{pick}
 use Rattle.rules.specs.Kinds.{variable}
 use Rattle.rules.specs.Terms.{Term, leaf, size}
 use Rattle.rules.specs.Indices.{raised, replacing, replaced}
 use Rattle.rules.specs.Format.{Record}
 use Rattle.rules.proofs.Laid.{size_some}
-use Rattle.terms.specs.Preorder.{HasTree}
 use Rattle.substitution.specs.declared.arguments.Arguments.{Arguments}
 use Rattle.substitution.specs.Arguments.{StandForAll}
 use Rattle.copies.specs.Copying.{TreeSize}
-use Rattle.sizes.specs.Counting.{weight, size_after, CanCount, CountsSize, HasArgument, Measures, CanFit, MeasuresSecond, TellsRoom, TellsSurely}
+use Rattle.sizes.specs.Counting.{weight, size_after, CountsSize, HasArgument, Measures, CanFit, MeasuresSecond, TellsRoom, TellsSurely}
 use Rattle.copies.proofs.RaisedRoots.{size_raised}
 use Rattle.sizes.proofs.Weights.{Weighs, changed_size, summed_more, weight_more, summed_most, weight_most}
 use Rattle.substitution.proofs.ReplacedCopies.{innermost}
@@ -52,32 +49,8 @@ module _ (rs : List Record) (at : ℕ) (g : Arguments) where
   pub second_there : CanFit rs at g → 1 < g.count → HasArgument rs g.second
   second_there h l = record { lo = h.lo; hi = h.hi; term = _; stands = h.stand.each 1 h.tree l; small = h.small 1 h.tree l }
 
-  pub body_there : CanFit rs at g → HasTree rs at
-  body_there h = record { tree = h.tree; there = h.there }
-
-  pub second_measured : (x : Bool) (n : ℕ) → 1 < g.count → Measures rs g.second x n → MeasuresSecond rs g x n
-  second_measured x n l m = record { there = λ _. m; none = λ k. absurd (omega arith) }
-
-  pub no_second : (x : Bool) → g.count ≤ 1 → MeasuresSecond rs g x 0
-  no_second x k = record { there = λ l. absurd (omega arith); none = λ _. refl }
-
   -- What measures the arguments measures the copy.
   module _ (x : Bool) (n k : ℕ) (first : Measures rs g.first x n) (second : MeasuresSecond rs g x k) where
-    second_small : k ≤ 65535
-    second_small = elim (dec_lt 1 g.count) [
-      | yes l ↦ (second.there l).small
-      | no l ↦ omega (arith, second.none (omega arith))
-    ]
-
-    pub body_counts : CanFit rs at g → CanCount rs at 0 n k
-    body_counts h = record { tree = h.tree; there = h.there; deep = omega (arith, h.few); first_small = first.small; second_small = second_small }
-
-    pub bound_fits : (b l : ℕ) → CanFit rs at g → TreeSize rs at b → l ≡ max n k → Fits w64 (b * l)
-    bound_fits b l h w e =
-        let few : b ≤ 32767 = omega (arith, w.is h.tree h.there, h.few) in
-        let most : l ≤ 65535 = omega (arith, first.small, second_small) in
-        omega (arith, mul-le-mul few most)
-
     module _ (lo hi : ℕ) (t : Term) (ts : List Term) (s : StandForAll rs lo hi g ts) where
       -- The sizes of what the arguments stand for; what would stand for index 1 where one variable is replaced counts 0.
       abbrev first_size : ℕ
@@ -124,9 +97,9 @@ module _ (rs : List Record) (at : ℕ) (g : Arguments) where
           let o : 1 ≤ l = omega (arith, first_less, size_some (get_or ts 0 t)) in
           summed_most (weight g.count n k) 1 l o (weight_most g.count n k l o (omega arith) (omega arith)) 0 t
 
-    pub bound_tells : (b l room : ℕ) → TreeSize rs at b → l ≡ max n k → b * l ≤ room → TellsSurely rs at g room true
-    bound_tells b l room w e q = record {
-      fits = λ lo hi t ts h s _. omega (arith, bounded lo hi t ts s, most_each lo hi t ts s l e, mul_comm l (size t), ap (λ x. x * l) (w.is t h));
+    pub bound_tells : (b l room : ℕ) → TreeSize rs at b → l ≡ max n k → TellsSurely rs at g room (leb (b * l) room)
+    bound_tells b l room w e = record {
+      fits = λ lo hi t ts h s y. omega (arith, leb→le (b * l) room y, bounded lo hi t ts s, most_each lo hi t ts s l e, mul_comm l (size t), ap (λ x. x * l) (w.is t h));
     }
 
     pub bounds_tell : (room c : ℕ) → CountsSize rs at 0 g.count n k c → TellsSurely rs at g room (leb c room)
@@ -138,4 +111,4 @@ module _ (rs : List Record) (at : ℕ) (g : Arguments) where
   pub surely_tells : (room : ℕ) (b : Bool) → TellsSurely rs at g room b → T b → TellsRoom rs at g room true
   surely_tells room b w y = record { is = λ lo hi t ts h s. sym (le-leb (size (replaced ts t)) room (w.fits lo hi t ts h s y)) }
 
-pub ruleset fitting = (first_there, second_there, body_there, second_measured, no_second, body_counts, bound_fits, bound_tells, bounds_tell, surely_tells, count_tells)
+pub ruleset fitting = (first_there, second_there, bound_tells, bounds_tell, surely_tells, count_tells)

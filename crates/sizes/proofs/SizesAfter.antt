@@ -8,15 +8,14 @@ use mathlib.Core.Path.{◌≡◌, sym, ap, ◌∙◌}
 use lib.Dec.{eqb}
 use lib.ListN.{length, get_or}
 use borrow.Author.Tests.{lt-ltb}
-use mir.Syntax.{w16, w64}
+use mir.Syntax.{w64}
 use mir.Val.{Fits}
 use Rattle.rules.specs.Lists.{pick}
-use Rattle.rules.specs.Kinds.{variable, child_count, kind_of}
+use Rattle.rules.specs.Kinds.{variable, Kind, child_count, kind_of}
 use Rattle.rules.specs.Terms.{Fields, Term, leaf, root_kind, size}
 use Rattle.rules.specs.Indices.{names_removed, summed}
 use Rattle.rules.specs.Format.{Record, no_record}
-use Rattle.rules.proofs.KindTable.{few_children}
-use Rattle.rules.proofs.Laid.{size_some}
+use Rattle.kinds.specs.Named.{IsKind}
 use Rattle.records.specs.View.{records_in}
 use Rattle.records.proofs.Records.{records_length}
 use Rattle.terms.specs.Preorder.{head, At, HasTree, Skips}
@@ -25,20 +24,25 @@ use Rattle.terms.proofs.Trees.{at_first, kids_there}
 use Rattle.terms.proofs.Joined.{binds_few}
 use Rattle.copies.specs.Copying.{is_named}
 use Rattle.sizes.specs.Counting.{weight, size_after, CanCount, CountsSize}
+use Rattle.copies.proofs.Parts.{root_known}
 use Rattle.copies.proofs.Rows.{child, Row, row_starts, Turn, row_turn}
 use Rattle.substitution.proofs.Sums.{low_summed, Adding, adding_starts, adding_next, adding_most, adding_ends}
 use Rattle.sizes.proofs.Weights.{summed_most, weight_most}
 use Rattle.copies.proofs.Copies.{Spot, named, kept, read_root, read_bound, read_kind, read_spot}
 
+-- The kind of its root is known.
+pub count_known : (rs : List Record) (src d first second : ℕ) (r : Record) → r ≡ get_or rs src no_record → CanCount rs src d first second → IsKind r.kind
+count_known rs src d first second r e h = root_known rs src r e h.tree h.there
+
 -- A tree whose root gives way to nothing.
-pub record StaysAt (m : ℕ) (rs : List Record) (src d k : ℕ) (t : Term) : Type 0 where
+pub record StaysAt (m : ℕ) (rs : List Record) (src d : ℕ) (k : Kind) (t : Term) : Type 0 where
   pub there : At rs src t
-  pub kind : kind_of k ≡ root_kind t
+  pub kind : k ≡ root_kind t
   pub unnamed : (f : Fields) → t ≡ leaf variable f → names_removed m d f.a ≡ false
 
 -- The loop over the children: child j, of n, is the next to be counted, at `at`, and y is counted before it.
-pub record Walking (m first second : ℕ) (rs : List Record) (src d k n y at j : ℕ) : Type 0 where
-  count : n ≡ child_count (kind_of k)
+pub record Walking (m first second : ℕ) (rs : List Record) (src d : ℕ) (k : Kind) (n y at j : ℕ) : Type 0 where
+  count : n ≡ child_count k
   all : (t : Term) → StaysAt m rs src d k t → Row rs src at j t
   adding : Adding (StaysAt m rs src d k) (weight m first second) 1 d j y
   tree : Term
@@ -62,10 +66,10 @@ module _ (m first second : ℕ) where
         below : (d i : ℕ) → i < d → weight m first second d i ≡ 1
         below d i l = rw (lt-ltb i d l)
 
-    module _ (l : d < r.next / 2) (k : ℕ) (o : k ≡ child_count (kind_of r.kind)) (x : Bool) (i : x ≡ is_named k m d r.fields.a) where
+    module _ (l : d < r.next / 2) (kd : Kind) (u : kd ≡ kind_of r.kind) (k : ℕ) (o : k ≡ child_count kd) (x : Bool) (i : x ≡ is_named k m d r.fields.a) where
       pub counts_use : x ≡ true → (n : ℕ) → n ≡ pick (eqb r.fields.a d) first second → CountsSize rs src d m first second n
       unfolding size_after summed
-      counts_use y n w = record { is = λ t h. told t h (rw (← i, y) at (read_spot rs src r e t h m d l k o)) }
+      counts_use y n w = record { is = λ t h. told t h (rw (← i, y) at (read_spot rs src r e t h m d l k (o ∙ ap child_count u))) }
         where
           told : (t : Term) → At rs src t → Spot m d t true → n ≡ summed (weight m first second) 1 d t
           told t h (named f p q) =
@@ -73,14 +77,14 @@ module _ (m first second : ℕ) where
               w ∙ ap (λ z. pick (eqb z d) first second) a ∙ sym (ap (summed (weight m first second) 1 d) p ∙ ap (λ b. pick b (pick (eqb f.a d) first second) 1) q)
 
       module _ (y : x ≡ false) where
-        pub stays_at : (t : Term) → At rs src t → StaysAt m rs src d r.kind t
-        stays_at t h = record { there = h; kind = read_kind rs src r e t h; unnamed = told (rw (← i, y) at (read_spot rs src r e t h m d l k o)) }
+        pub stays_at : (t : Term) → At rs src t → StaysAt m rs src d kd t
+        stays_at t h = record { there = h; kind = u ∙ read_kind rs src r e t h; unnamed = told (rw (← i, y) at (read_spot rs src r e t h m d l k (o ∙ ap child_count u))) }
           where
             told : Spot m d t false → (f : Fields) → t ≡ leaf variable f → names_removed m d f.a ≡ false
             told (kept a) = a
 
-        pub walk_starts : CanCount rs src d first second → (z : ℕ) → z ≡ r.kind → Walking m first second rs src d z k 1 (src + 1) 0
-        walk_starts h z q = rw q (record {
+        pub walk_starts : CanCount rs src d first second → Walking m first second rs src d kd k 1 (src + 1) 0
+        walk_starts h = record {
           count = o;
           all = λ t q. row_starts rs src t (kids_there rs src t q.there);
           adding = adding_starts _ (weight m first second) 1 d (λ t q f e. ap (λ b. pick b (pick (eqb f.a d) first second) 1) (q.unnamed f e));
@@ -89,16 +93,16 @@ module _ (m first second : ℕ) where
           deep = h.deep;
           first_small = h.first_small;
           second_small = h.second_small;
-        })
+        }
 
-        pub walk_ends : (n at j : ℕ) → Walking m first second rs src d r.kind k n at j → k ≤ j → CountsSize rs src d m first second n
+        pub walk_ends : (n at j : ℕ) → Walking m first second rs src d kd k n at j → k ≤ j → CountsSize rs src d m first second n
         unfolding size_after
         walk_ends n at j p q = record {
-          is = λ t h. adding_ends (StaysAt m rs src d r.kind) (weight m first second) 1 d j n p.adding t (stays_at t h) (omega (arith, o, ap child_count (stays_at t h).kind));
+          is = λ t h. adding_ends (StaysAt m rs src d kd) (weight m first second) 1 d j n p.adding t (stays_at t h) (omega (arith, o, ap child_count (stays_at t h).kind));
         }
 
 -- A turn of the loop.
-module _ (m first second : ℕ) (rs : List Record) (src d k n y at j : ℕ) (p : Walking m first second rs src d k n y at j) (l : j < n) where
+module _ (m first second : ℕ) (rs : List Record) (src d : ℕ) (k : Kind) (n y at j : ℕ) (p : Walking m first second rs src d k n y at j) (l : j < n) where
   next_one : (t : Term) → StaysAt m rs src d k t → j < child_count (root_kind t)
   next_one t q = omega (arith, p.count, ap child_count q.kind)
 
@@ -108,20 +112,14 @@ module _ (m first second : ℕ) (rs : List Record) (src d k n y at j : ℕ) (p :
   pub walk_tree : HasTree rs at
   walk_tree = record { tree = child p.tree j; there = (next_turn p.tree p.of).there }
 
-  pub walk_count : Fits w16 (j + 1)
-  walk_count = omega (arith, p.count, few_children (kind_of k))
-
-  module _ (u : ℕ) (b : u ≡ binders_over (kind_of k) j) where
-    pub walk_deep : Fits w16 (d + u)
-    walk_deep = omega (arith, p.deep, b, binds_few (kind_of k) j, size_some p.tree)
-
+  module _ (u : ℕ) (b : u ≡ binders_over k j) where
     pub walk_can : CanCount rs at (d + u) first second
     walk_can =
         let q = next_turn p.tree p.of in
         record {
           tree = child p.tree j;
           there = q.there;
-          deep = omega (arith, p.deep, b, binds_few (kind_of k) j, q.next.from, (p.all p.tree p.of).begun);
+          deep = omega (arith, p.deep, b, binds_few k j, q.next.from, (p.all p.tree p.of).begun);
           first_small = p.first_small;
           second_small = p.second_small;
         }
@@ -140,8 +138,8 @@ module _ (m first second : ℕ) (rs : List Record) (src d k n y at j : ℕ) (p :
       )
 
 -- The child is counted, and the one after it is next.
-pub walk_next : (m first second : ℕ) (rs : List Record) (at d u z : ℕ) → CountsSize rs at (d + u) m first second z → (src k n y j : ℕ) → Walking m first second rs src d k n y at j → (end : ℕ)
-    → Skips rs at end → j < n → u ≡ binders_over (kind_of k) j → (x : ℕ) → x ≡ y + z → Walking m first second rs src d k n x end (j + 1)
+pub walk_next : (m first second : ℕ) (rs : List Record) (at d u z : ℕ) → CountsSize rs at (d + u) m first second z → (src : ℕ) (k : Kind) (n y j : ℕ) → Walking m first second rs src d k n y at j → (end : ℕ)
+    → Skips rs at end → j < n → u ≡ binders_over k j → (x : ℕ) → x ≡ y + z → Walking m first second rs src d k n x end (j + 1)
 walk_next m first second rs at d u z c src k n y j p end sk l b x e = rw e (record {
   count = p.count;
   all = λ t q. let v = next_turn m first second rs src d k n y at j p l t q in rw (sk.is (child t j) v.there) v.next;
@@ -159,9 +157,9 @@ count_in rs src d first second h = at_first rs src h.tree h.there
 pub count_from_fits : (s : List ℕ) (src d first second : ℕ) → CanCount (records_in s) src d first second → length s < 2 ^ 64 → Fits w64 (src + 1)
 count_from_fits s src d first second h b = omega (arith, count_in (records_in s) src d first second h, records_length s)
 
-pub walk_falls : (m first second : ℕ) (s : List ℕ) (src d k n y at j : ℕ) → Walking m first second (records_in s) src d k n y at j → j < n → (q : ℕ) → length (records_in s) - src ≡ q
+pub walk_falls : (m first second : ℕ) (s : List ℕ) (src d : ℕ) (k : Kind) (n y at j : ℕ) → Walking m first second (records_in s) src d k n y at j → j < n → (q : ℕ) → length (records_in s) - src ≡ q
     → length (records_in s) - at < q
 walk_falls m first second s src d k n y at j p l q g =
     omega (arith, (p.all p.tree p.of).begun, at_first (records_in s) at _ (walk_tree m first second (records_in s) src d k n y at j p l).there)
 
-pub ruleset counting = (counts_block, counts_use, count_in, count_from_fits, walk_starts, walk_ends, walk_tree, walk_count, walk_deep, walk_next, walk_can, sum_fits, walk_falls)
+pub ruleset counting = (counts_block, count_in, count_from_fits, walk_tree, walk_next, walk_can, sum_fits, walk_falls)

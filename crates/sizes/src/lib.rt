@@ -1,21 +1,13 @@
 // The sizes of copies, told before anything is copied.
 #![tactic(auto)]
 
-ghost use Rattle.std.specs.Prelude.{◌≡◌, max};
-ghost use Rattle.rules.specs.Lists.{pick};
 ghost use Rattle.records.specs.View.{records_in};
 ghost use Rattle.sizes.specs.Counting.{CanCount, CountsSize, HasArgument, Measures, CanFit, MeasuresSecond, TellsRoom, TellsSurely};
 
 use copies::{gives_way, tree_size};
-use substitution::{Argument, Arguments};
+use kinds::Kind;
+use substitution::{Argument, Arguments, chosen};
 use terms::{binders_over, skip};
-
-// What counts for the variable of the innermost removed binder, or for another.
-fn chosen_size(first: usize, second: usize, inner: bool) -> usize
-    ensures { result ≡ pick inner first second }
-{
-    if inner { first } else { second }
-}
 
 // The size of the tree at `src` once each variable of the innermost of the m binders next to d has given way to `first` records, and one of another
 // to `second`. A tree without an index that reaches so far is counted at once.
@@ -27,19 +19,17 @@ fn size_after(w: &[u8], src: usize, d: u16, m: u16, first: usize, second: usize)
     if r.next / 2 <= d {
         return r.first as usize;
     }
-    let kind = r.kind;
-    let children = kinds::children(kind);
+    let kind = Kind::known(r.kind);
+    let children = kind.children();
     if gives_way(children, r.a, d, m) {
-        return chosen_size(first, second, r.a == d);
+        return chosen(first, second, r.a == d);
     }
     let mut n = 1;
     let mut at = src + 1;
-    let mut j: u16 = 0;
-    while j < children {
+    for j in 0..children {
         let after = skip(w, at);
         n += size_after(w, at, d + binders_over(kind, j), m, first, second);
         at = after;
-        j += 1;
     }
     n
 }
@@ -52,12 +42,9 @@ pub fn argument_size(w: &[u8], g: Argument, exactly: bool) -> usize
 {
     match g {
         Argument::Tree(at) => tree_size(w, at),
-        Argument::Quote(at, ty) => 1 + tree_size(w, at),
-        Argument::Opened(at, ty, a, b) => if exactly {
-            2 + size_after(w, at, 0, 1, 2, 2)
-        } else {
-            2 + 2 * tree_size(w, at)
-        },
+        Argument::Quote(at, _) => 1 + tree_size(w, at),
+        Argument::Opened(at, _, _, _) if exactly => 2 + size_after(w, at, 0, 1, 2, 2),
+        Argument::Opened(at, _, _, _) => 2 + 2 * tree_size(w, at),
     }
 }
 
@@ -67,18 +54,10 @@ fn second_size(w: &[u8], at: usize, g: Arguments, exactly: bool) -> usize
     ensures { MeasuresSecond (records_in w.now) g exactly result }
 {
     if 1 < g.count {
-        let second = g.second;
-        argument_size(w, second, exactly)
+        argument_size(w, g.second, exactly)
     } else {
         0
     }
-}
-
-// The larger of two numbers.
-fn larger(x: usize, y: usize) -> usize
-    ensures { result ≡ max x y }
-{
-    if x < y { y } else { x }
 }
 
 // Whether the tree at `at` has room, without counting what the arguments stand for: none of its records makes more than the larger of the bounds of
@@ -87,13 +66,10 @@ fn surely_fits(w: &[u8], at: usize, g: Arguments, room: usize) -> bool
     requires { CanFit (records_in w.now) at g }
     ensures { TellsSurely (records_in w.now) at g room result }
 {
-    let inner = g.first;
-    let first = argument_size(w, inner, false);
+    let first = argument_size(w, g.first, false);
     let second = second_size(w, at, g, false);
-    if tree_size(w, at) * larger(first, second) <= room {
-        return true;
-    }
-    size_after(w, at, 0, g.count, first, second) <= room
+    tree_size(w, at) * first.max(second) <= room
+        || size_after(w, at, 0, g.count, first, second) <= room
 }
 
 // Whether the tree at `at` has at most `room` records once its variables are replaced by what the arguments stand for. They are counted only where
@@ -105,8 +81,7 @@ pub fn replaced_fits(w: &[u8], at: usize, g: Arguments, room: usize) -> bool
     if surely_fits(w, at, g, room) {
         return true;
     }
-    let inner = g.first;
-    let first = argument_size(w, inner, true);
+    let first = argument_size(w, g.first, true);
     let second = second_size(w, at, g, true);
     size_after(w, at, 0, g.count, first, second) <= room
 }
