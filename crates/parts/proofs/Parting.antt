@@ -2,7 +2,7 @@
 use Prim.Native.Nat.{ℕ, ◌+◌, ◌*◌, ◌-◌, ◌≤◌, ◌<◌}
 use native.Mathlib.Omega.{arith}
 use mathlib.Core.List.{List}
-use mathlib.Core.Path.{◌≡◌, sym, ap, ap₂, ◌∙◌}
+use mathlib.Core.Path.{◌≡◌, sym, ap, ◌∙◌}
 use lib.ListN.{length, take, drop, length-drop}
 use lib.Seq.{take_all}
 use Rattle.rules.specs.Editions.{Edition}
@@ -13,7 +13,7 @@ use Rattle.rules.proofs.Meaning.{types_counted, records_counted}
 use Rattle.records.specs.View.{entries_in, records_in}
 use Rattle.records.proofs.Program.{program_table_slice, program_records_slice}
 use Rattle.parts.specs.declared.Parts.{Parts}
-use Rattle.parts.specs.Layout.{IsLaidOut, table_part, records_part, ArePartsOf}
+use Rattle.parts.specs.Layout.{IsLaidOut, ArePartsOf}
 
 module _ (p : List ℕ) (h : IsLaidOut p) where
   pub types_there : 0 + 1 < length p

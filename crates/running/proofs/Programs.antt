@@ -1,17 +1,17 @@
 -- `run_program`: a passed program from its bytes to the bytes that are written. `running_programs` for search.
-use Prim.Native.Nat.{ℕ, ◌+◌, ◌*◌, ◌-◌}
+use Prim.Native.Nat.{ℕ, ◌*◌}
 use native.Mathlib.Omega.{arith}
 use mathlib.Core.List.{List, []}
-use mathlib.Core.Path.{◌≡◌, sym, ap, ◌∙◌}
-use lib.ListN.{length, take, drop, length-take, length-drop}
+use mathlib.Core.Path.{◌≡◌, sym, ◌∙◌}
+use lib.ListN.{length, drop, length-take, length-drop}
 use Rattle.rules.specs.Editions.{Edition}
 use Rattle.rules.specs.Terms.{Term}
 use Rattle.rules.specs.FieldUses.{given}
-use Rattle.rules.specs.Format.{Record, type_count, record_count, table_of, records_of}
+use Rattle.rules.specs.Format.{Record, type_count, table_of}
 use Rattle.rules.specs.Links.{root_tree}
 use Rattle.rules.specs.Typing.{Typed}
 use Rattle.rules.specs.Meets.{Meets}
-use Rattle.rules.proofs.Meaning.{records_counted, root_size, unlike}
+use Rattle.rules.proofs.Meaning.{root_size, unlike}
 use Rattle.records.specs.View.{entries_in, records_in}
 use Rattle.records.proofs.Records.{records_length}
 use Rattle.parts.specs.declared.Parts.{Parts}
