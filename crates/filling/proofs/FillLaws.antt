@@ -20,10 +20,9 @@ use Rattle.rules.specs.Conditions.{Holds}
 use Rattle.rules.specs.Check.{children, children_rule}
 use Rattle.rules.proofs.Tests.{holds_lowest, both_pass, holds_unless}
 use Rattle.rules.proofs.Tree.{next_from, fields_node}
-use Rattle.inference.specs.Inference.{retyped, wanted, table_for, number_for, filled, unless_refused, no_term, assigned, inferred_from}
+use Rattle.inference.specs.Inference.{retyped, table_for, number_for, filled, unless_refused, no_term, assigned, inferred_from}
 use Rattle.inference.proofs.Generations.{inferred_nothing}
 use Rattle.records.specs.declared.Record.{Record as Read}
-use Rattle.records.specs.Places.{IsRecord}
 use Rattle.refusals.specs.declared.reasons.Refusal.{Refusal}
 use Rattle.judging.specs.Stack.{stack}
 use Rattle.judging.specs.Tests.{fields_meant}
@@ -32,25 +31,16 @@ use Rattle.typing.specs.Reading.{IsThird, second_of, third_of}
 use Rattle.typing.specs.Entering.{Enters, EntersFirst, EntersSecond, kind_no, fields_no}
 use Rattle.typing.proofs.TreeCounts.{none_after_third}
 use Rattle.tables.specs.declared.Held.{Held}
-use Rattle.assigning.specs.Assigning.{wanted_for, MayFollow, CanAssign, fault_for, Assigns}
+use Rattle.assigning.specs.Assigning.{wanted_for, fault_for, Assigns}
 use Rattle.filling.specs.declared.Progress.{Progress}
-use Rattle.filling.specs.Filling.{fault_of, firsts, types_at, size_at, CanInfer, CanFill, Filled, Fills, CanFillChild, settled, CanSettle, Settles}
+use Rattle.filling.specs.Filling.{fault_of, firsts, types_at, size_at, CanInfer, CanFill, Filled, Fills, CanFillChild, settled, Settles}
 use Rattle.filling.proofs.FaultLaws.{fault_unless, unless_none, assigned_by}
 use Rattle.filling.proofs.TypeLaws.{types_there, types_node, firsts_none, firsts_own}
 use Rattle.filling.proofs.Inferring.{infers_first, infers_second}
 use Rattle.filling.proofs.Coming.{size_there, Come, one_left, entered, come_child, still_kept, still_room, come_type, come_before, come_further}
 use Rattle.filling.proofs.Sequence.{First, Second, Third, follows, stopped_first, stopped_second, stopped_third, AllThree, all_three}
 
--- Record n, as it is read, can be given its type.
-pub can_assign : (rs : List Record) (es : Table) (gs bs : List ℕ) (d n left : ℕ) (done : Progress) (x y : ℕ) (own : Read) → CanSettle rs es gs bs d n left done x y
-    → IsRecord rs n own → CanAssign es done.types bs d own x y
-can_assign rs es gs bs d n left done x y own can read = record {
-  table = can.table;
-  binders = can.binders;
-  follows = subst (λ q. MayFollow done.types (wanted (take done.types es) (stack bs d) (kind_of q.kind) q.fields x y)) (sym read.is) can.follows;
-}
-
--- A child that is none, and one that is there.
+-- A child that is none.
 module _ (rs : List Record) (es : Table) (gs bs : List ℕ) (d l n : ℕ) (before : Progress) (can : CanFillChild rs es gs bs d n before) where
   pub child_none : n ≡ 0 → Fills rs es es gs gs bs bs d l n before.types before.left (Ok (record { types = before.types; ty = 0; left = before.left }))
   unfolding fault_of size_at
@@ -62,9 +52,6 @@ module _ (rs : List Record) (es : Table) (gs bs : List ℕ) (d l n : ℕ) (befor
         kept = refl;
         room = refl;
       }
-
-  pub child_falls : (t : ℕ) → 2 * before.left + 1 ≡ t → 2 * before.left < t
-  child_falls t e = omega arith
 
 -- How far the walk of a record has come when it is entered.
 abbrev start : ℕ → ℕ → Progress

@@ -6,37 +6,40 @@ use mathlib.Core.Option.{Option, some}
 use mathlib.Core.Path.{◌≡◌, refl, ap, sym, ◌∙◌}
 use lib.ListN.{length, take, drop, length-append}
 use lib.Seq.{length-take-le, take_at}
+use Rattle.std.specs.Prelude.{Result, Ok, Err}
 use Rattle.rules.specs.Editions.{first_edition}
 use Rattle.rules.specs.FieldUses.{omitted}
 use Rattle.rules.specs.Format.{type_count, record_count, table_of, records_of}
 use Rattle.rules.specs.Meets.{MeetsLayout}
-use Rattle.rules.specs.Refusals.{Refusal}
+use Rattle.rules.specs.Refusals.{Refusal as MeantRefusal}
 use Rattle.rules.proofs.Meaning.{layout_exactly, records_counted}
 use Rattle.inference.specs.Inference.{Inference, faulty, filled, unless_refused, inferred_from}
 use Rattle.inference.specs.Infer.{answer_of, output_of, inference}
 use Rattle.records.specs.Overwritten.{overwritten}
 use Rattle.records.specs.View.{entries_in, records_in}
 use Rattle.records.proofs.Overwriting.{overwritten_length}
-use Rattle.refusals.specs.Tells.{refusal_by}
-use Rattle.refusals.proofs.Laws.{some_number}
+use Rattle.refusals.specs.declared.reasons.Refusal.{Refusal}
+use Rattle.refusals.specs.Reports.{refusal_meant}
 use Rattle.filling.specs.declared.Progress.{Progress}
-use Rattle.filling.specs.Filling.{fault_of, verdict_of, FillsAll}
+use Rattle.filling.specs.Filling.{fault_of, FillsAll}
 use Rattle.infer_call.specs.declared.InferAnswer.{InferAnswer}
 use Rattle.infer_call.specs.Answers.{infer_meant, refused_by, CanTypeWith, CanWriteFilled, Types}
 use Rattle.infer_call.proofs.Parts.{records_are, types_fit, part_fits, table_front}
 
 -- An inference with a fault is that fault.
-fault_is : (o : Inference) (r : Refusal) → fault_of o ≡ some r → o ≡ faulty r
+fault_is : (o : Inference) (r : MeantRefusal) → fault_of o ≡ some r → o ≡ faulty r
 unfolding fault_of
 fault_is (faulty q) r e = ap faulty (some_is e)
   where
-    some_is : {q r : Refusal} → ◌≡◌ {A = Option Refusal} (some q) (some r) → q ≡ r
+    some_is : {q r : MeantRefusal} → ◌≡◌ {A = Option MeantRefusal} (some q) (some r) → q ≡ r
     some_is e = cc
 fault_is (filled A t) r e = let z : ◌≡◌ {A = ℕ} 0 1 = cc in absurd (omega arith)
 
 module _ (p out work table given : List ℕ) (h : CanTypeWith p out work table given) (T R : ℕ) (eT : T ≡ type_count p) (eR : R ≡ record_count p)
-    (tb : List ℕ) (copied : tb ≡ overwritten table 0 (take (4 + 6 * T - 4) (drop 4 p))) (tb' gs : List ℕ) (r : Progress)
-    (fills : FillsAll (records_in (take (length p - (4 + 6 * T)) (drop (4 + 6 * T) p))) R (entries_in tb) (entries_in tb') T gs r) where
+    (tb : List ℕ) (copied : tb ≡ overwritten table 0 (take (4 + 6 * T - 4) (drop 4 p))) (tb' gs : List ℕ) where
+  abbrev Ends : Result Progress Refusal → Type 0
+  Ends = FillsAll (records_in (take (length p - (4 + 6 * T)) (drop (4 + 6 * T) p))) R (entries_in tb) (entries_in tb') T gs
+
   m : MeetsLayout omitted first_edition p
   m = h.can.layout
 
@@ -49,16 +52,16 @@ module _ (p out work table given : List ℕ) (h : CanTypeWith p out work table g
       (ap (λ n. inferred_from n (table_of p) (records_of p) [] 0 1) (eR ∙ sym (records_counted p))))
 
   -- A fault is the answer, and nothing is changed.
-  pub type_faulty : (a : InferAnswer) → (r.number ≡ 0 → ⊥) → infer_meant a ≡ refused_by r.number r.place → Types p out out work work a
-  type_faulty a n e =
-      let o : inference first_edition p ≡ faulty (refusal_by r.number r.place) =
-      fault_is (inference first_edition p) _ (ap fault_of (sym inferred_is) ∙ some_number (verdict_of r) _ fills.tells n) in
+  pub type_faulty : (q : Refusal) → Ends (Err q) → (a : InferAnswer) → infer_meant a ≡ refused_by q → Types p out out work work a
+  type_faulty q fills a e =
+      let o : inference first_edition p ≡ faulty (refusal_meant q) =
+      fault_is (inference first_edition p) _ (ap fault_of (sym inferred_is) ∙ sym fills.reports) in
       record { answer = e ∙ ap answer_of (sym o); output = ap (λ i. output_of i out) (sym o); faulted = λ q d. refl }
 
   -- The types stand at the front of their array.
-  pub can_write : r.number ≡ 0 → length tb' ≡ length tb → length gs ≡ length (take R given) → CanWriteFilled p out work tb' (gs ++ drop R given) r
-  can_write z same kept =
-      let done = fills.done z in
+  pub can_write : (q : Progress) → Ends (Ok q) → length tb' ≡ length tb → length gs ≡ length (take R given) → CanWriteFilled p out work tb' (gs ++ drop R given) q
+  can_write q fills same kept =
+      let done = fills.done in
       let long : length gs ≡ R = kept ∙ length-take-le R given (types_fit p out work table given h T R eT eR) in
       let all : length tb ≡ length table = ap length copied ∙ overwritten_length table 0 _ (part_fits p out work table given h T R eT eR) in
       record {

@@ -1,6 +1,6 @@
 -- The parts of a program of good layout that inference is given: its records make a tree, and its table stands at the front of the buffer in which it
--- grows. `parts` for search.
-use Prim.Native.Nat.{ℕ, suc, ◌+◌, ◌*◌, ◌-◌, ◌/◌, ◌≤◌, ◌<◌}
+-- grows.
+use Prim.Native.Nat.{ℕ, suc, ◌+◌, ◌*◌, ◌-◌, ◌/◌, ◌≤◌}
 use native.Mathlib.Omega.{arith}
 use mathlib.Core.List.{List, []}
 use mathlib.Core.Path.{◌≡◌, ap, sym, ◌∙◌}
@@ -19,7 +19,7 @@ use Rattle.records.specs.Overwritten.{overwritten}
 use Rattle.records.specs.View.{entries_in, records_in}
 use Rattle.records.proofs.Entries.{entries_length, entries_front}
 use Rattle.records.proofs.Overwriting.{overwritten_length}
-use Rattle.records.proofs.Program.{layout_types, layout_count, layout_end, layout_table_slice, layout_records_slice}
+use Rattle.records.proofs.Program.{layout_end, layout_table_slice, layout_records_slice}
 use Rattle.typing.specs.Walking.{MakeTree}
 use Rattle.filling.specs.Filling.{CanInfer, CanFillAll}
 use Rattle.infer_call.specs.Answers.{CanTypeWith}
@@ -27,12 +27,6 @@ use Rattle.infer_call.specs.Answers.{CanTypeWith}
 module _ (p out work table given : List ℕ) (h : CanTypeWith p out work table given) where
   abbrev m : MeetsLayout omitted first_edition p
   m = h.can.layout
-
-  pub read_types : 0 + 1 < length p
-  read_types = layout_types omitted first_edition p m
-
-  pub read_count : 2 + 1 < length p
-  read_count = layout_count omitted first_edition p m
 
   module _ (T R : ℕ) (eT : T ≡ type_count p) (eR : R ≡ record_count p) where
     abbrev table_part : List ℕ
@@ -104,5 +98,3 @@ module _ (p out work table given : List ℕ) (h : CanTypeWith p out work table g
 
       pub fill_asked : CanFillAll (records_in record_part) R (entries_in tb) T (take R given)
       fill_asked = record { tree = whole; table = omega (arith, buffer_long); few = types_few; given = sym given_long; infers = infers }
-
-pub ruleset parts = (read_types, read_count, part_end, types_fit, part_fits, given_long, fill_asked)

@@ -1,5 +1,5 @@
--- The program that is written with what is filled: `written_laws` for search.
-use Prim.Native.Nat.{ℕ, suc, ◌+◌, ◌*◌, ◌-◌, ◌/◌, ◌≤◌, ◌<◌}
+-- The program that is written with what is filled.
+use Prim.Native.Nat.{ℕ, suc, ◌+◌, ◌*◌, ◌-◌, ◌/◌, ◌≤◌}
 use native.Mathlib.Omega.{arith}
 use mathlib.Core.List.{List}
 use mathlib.Core.Path.{◌≡◌, ap, sym, subst, ◌∙◌}
@@ -21,7 +21,7 @@ use Rattle.inference.proofs.Calls.{inference_answered}
 use Rattle.inference.proofs.Growing.{longer}
 use Rattle.records.specs.View.{entries_in, records_in}
 use Rattle.records.proofs.Entries.{entries_length, entries_front}
-use Rattle.records.proofs.Program.{layout_types, layout_count, layout_end, layout_records_slice}
+use Rattle.records.proofs.Program.{layout_records_slice}
 use Rattle.records.proofs.Records.{records_length}
 use Rattle.terms.proofs.Loaded.{form_linked}
 use Rattle.writing.specs.Program.{WroteProgram}
@@ -32,12 +32,6 @@ use Rattle.infer_call.specs.Answers.{CanWriteFilled, Types}
 module _ (p out work table given : List ℕ) (done : Progress) (h : CanWriteFilled p out work table given done) where
   m : MeetsLayout omitted first_edition p
   m = h.can.layout
-
-  pub filled_types : 0 + 1 < length p
-  filled_types = layout_types omitted first_edition p m
-
-  pub filled_count : 2 + 1 < length p
-  filled_count = layout_count omitted first_edition p m
 
   abbrev A : Table
   A = take done.types (entries_in table)
@@ -55,15 +49,6 @@ module _ (p out work table given : List ℕ) (done : Progress) (h : CanWriteFill
   filled_long = sym (length-take-le (6 * done.types) table filled_fits)
 
   module _ (T R : ℕ) (eT : T ≡ type_count p) (eR : R ≡ record_count p) where
-    pub filled_end : 4 + 6 * T ≤ length p
-    filled_end = layout_end omitted first_edition p m T eT
-
-    pub given_fits : R ≤ length given
-    given_fits = omega (arith, h.room, eR)
-
-    pub given_long : R ≡ length (take R given)
-    given_long = sym (length-take-le R given given_fits)
-
     rs_are : records_in (take (length p - (4 + 6 * T)) (drop (4 + 6 * T) p)) ≡ records_of p
     rs_are = sym (layout_records_slice omitted first_edition p m T eT)
 
@@ -109,5 +94,3 @@ module _ (p out work table given : List ℕ) (done : Progress) (h : CanWriteFill
         output = wrote.bytes ∙ ap (λ t. output_of (filled t h.term) out) table_is ∙ ap (λ o. output_of o out) (sym h.is);
         faulted = λ q e. let z : ◌≡◌ {A = ℕ} 0 1 = cc (sym h.is ∙ e) in absurd (omega arith);
       }
-
-pub ruleset written_laws = (filled_types, filled_count, filled_fits, filled_long, filled_end, given_fits, given_long, write_asked, length_short, type_written_lem)

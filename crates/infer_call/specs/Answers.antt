@@ -6,19 +6,21 @@ use Rattle.rules.specs.Types.{Table}
 use Rattle.rules.specs.FieldUses.{omitted}
 use Rattle.rules.specs.Format.{most_types, most_records, record_count}
 use Rattle.rules.specs.Meets.{MeetsLayout}
-use Rattle.rules.specs.Refusals.{Refusal}
+use Rattle.rules.specs.Refusals.{Refusal as MeantRefusal}
 use Rattle.rules.specs.Run.{output_needed, work_needed}
 use Rattle.inference.specs.Inference.{types_of, faulty, filled}
 use Rattle.inference.specs.Infer.{InferAnswer as MeantInferAnswer, answer_of, output_of, inference, inference_lent, infer_answer, infer_output, Answered}
 use Rattle.records.specs.View.{entries_in}
+use Rattle.refusals.specs.declared.reasons.Refusal.{Refusal}
+use Rattle.refusals.specs.Reports.{refusal_meant}
 use Rattle.filling.specs.declared.Progress.{Progress}
 use Rattle.infer_call.specs.declared.InferAnswer.{InferAnswer}
 
 abbrev pub infer_meant : InferAnswer → MeantInferAnswer
 infer_meant r = record { number = r.number; place = r.place; root_type = r.root_type; written = r.written }
 
-abbrev pub refused_by : ℕ → ℕ → MeantInferAnswer
-refused_by number place = answer_of (faulty (record { number = number; place = place }))
+abbrev pub refused_by : Refusal → MeantInferAnswer
+refused_by refusal = answer_of (faulty (refusal_meant refusal))
 
 -- The program's layout is good, the output has room for any program, and the work buffer is what is used of it.
 pub record CanType (program out work : List ℕ) : Type 0 where
@@ -47,7 +49,7 @@ pub record CanWriteFilled (program out work table given : List ℕ) (done : Prog
 pub record Types (program out out' work work' : List ℕ) (r : InferAnswer) : Type 0 where
   pub answer : infer_meant r ≡ answer_of (inference first_edition program)
   pub output : out' ≡ output_of (inference first_edition program) out
-  pub faulted : (q : Refusal) → inference first_edition program ≡ faulty q → work' ≡ work
+  pub faulted : (q : MeantRefusal) → inference first_edition program ≡ faulty q → work' ≡ work
 
 -- What infer ensures for the first edition, of the program and the buffers before the call, its answer, and the buffers after it. The answer and every byte of
 -- the output buffer are the definitions'. Of the work buffer, the first 65,536 bytes after an accepted call are free, which is the sole freedom; a refused
@@ -57,5 +59,5 @@ pub record Inferred (program out work : List ℕ) (r : InferAnswer) (out' work' 
   pub output : out' ≡ infer_output first_edition program out (length work)
   pub work_length : length work' ≡ length work
   pub work_beyond : drop work_needed work' ≡ drop work_needed work
-  pub work_refused : (q : Refusal) → inference_lent first_edition program (length out) (length work) ≡ faulty q → work' ≡ work
+  pub work_refused : (q : MeantRefusal) → inference_lent first_edition program (length out) (length work) ≡ faulty q → work' ≡ work
   pub passes : (A : Table) (t : Term) → inference_lent first_edition program (length out) (length work) ≡ filled A t → Answered first_edition program A t

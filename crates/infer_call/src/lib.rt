@@ -3,10 +3,17 @@
 // growing table, stands in local arrays.
 #![tactic(auto)]
 
-ghost use Rattle.std.specs.Prelude.{◌≡◌};
+ghost use Rattle.std.specs.Prelude.{◌≡◌, length};
+ghost use Rattle.rules.specs.Editions.{first_edition};
+ghost use Rattle.rules.specs.FieldUses.{omitted};
+ghost use Rattle.rules.specs.Refusals.{◌then◌};
+ghost use Rattle.rules.specs.Check.{layout_refusal};
+ghost use Rattle.rules.specs.Run.{buffers_refusal};
+ghost use Rattle.refusals.specs.Reports.{Reports};
 ghost use Rattle.infer_call.specs.Answers.{infer_meant, refused_by, CanType, CanTypeWith, CanWriteFilled, Types, Inferred};
 
 use filling::Progress;
+use refusals::Refusal;
 
 // The bytes of a table of 257 entries: one more than a table may have is made before it is refused.
 const TABLE: usize = 1542;
@@ -25,12 +32,12 @@ pub struct InferAnswer {
 }
 
 // The answer of a refused call.
-fn refusing(number: u16, place: u16) -> InferAnswer
-    ensures { infer_meant result ≡ refused_by number place }
+fn refusing(refusal: Refusal) -> InferAnswer
+    ensures { infer_meant result ≡ refused_by refusal }
 {
     InferAnswer {
-        number: number as u32,
-        place: place as u32,
+        number: refusal.reason.number() as u32,
+        place: refusal.place as u32,
         root_type: 0,
         written: 0,
     }
@@ -87,11 +94,10 @@ fn type_with(
     let end = 4 + 6 * (types as usize);
     let last = count as usize;
     writing::copy_bytes(&program[4..end], table, 0);
-    let done = filling::fill_all(&program[end..], count, table, types, &mut given[..last]);
-    if done.number != 0 {
-        return refusing(done.number, done.place);
+    match filling::fill_all(&program[end..], count, table, types, &mut given[..last]) {
+        Ok(done) => write_filled(program, output, work, table, given, done),
+        Err(refusal) => refusing(refusal),
     }
-    write_filled(program, output, work, table, given, done)
 }
 
 // The same, with arrays of its own.
@@ -104,17 +110,20 @@ fn type_program(program: &[u8], output: &mut [u8], work: &mut [u8]) -> InferAnsw
     type_with(program, output, work, &mut table, &mut given)
 }
 
+// The refusal of a call by its buffers' lengths and by the program's layout, or none.
+fn call_refusal(program: &[u8], output: &[u8], work: &[u8]) -> Result<(), Refusal>
+    ensures { Reports result (buffers_refusal (length output.now) (length work.now) then layout_refusal omitted first_edition program.now) }
+{
+    lending::buffers_refusal(output.len(), work.len())?;
+    checker::layout_refusal(program, kinds::first_edition())
+}
+
 // Types a program of any bytes whose type fields are all 0, with buffers of any length.
 pub fn infer(program: &[u8], output: &mut [u8], work: &mut [u8]) -> InferAnswer
     ensures { Inferred program.now output.old work.old result output.new work.new }
 {
-    let lent = lending::buffers_refusal(output.len(), work.len());
-    if lent.number != 0 {
-        return refusing(lent.number, lent.place);
+    match call_refusal(program, output, work) {
+        Ok(()) => type_program(program, output, &mut work[..lending::WORK]),
+        Err(refusal) => refusing(refusal),
     }
-    let layout = checker::layout_refusal(program, kinds::first_edition());
-    if layout.number != 0 {
-        return refusing(layout.number, layout.place);
-    }
-    type_program(program, output, &mut work[..lending::WORK])
 }

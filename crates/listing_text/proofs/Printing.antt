@@ -2,7 +2,7 @@
 use Prim.Native.Nat.{ℕ, ◌/◌, ◌≤◌, ◌<◌}
 use native.Mathlib.Nat.{zero-add}
 use native.Mathlib.Omega.{arith}
-use mathlib.Core.Path.{sym}
+use mathlib.Core.Path.{◌≡◌, sym}
 use mathlib.Core.List.{List}
 use lib.ListN.{length}
 use mir.Syntax.{w32}
@@ -11,6 +11,7 @@ use Rattle.records.specs.Overwritten.{overwritten}
 use Rattle.records.specs.View.{records_in}
 use Rattle.records.proofs.Records.{records_length}
 use Rattle.listing_text.specs.Text.{refused_text, first_line, record_lines, accepted_text}
+use Rattle.listing_text.specs.declared.Text.{Text}
 use Rattle.listing_text.specs.Parts.{RoomForPart, WroteText}
 use Rattle.listing_text.specs.Buffers.{RoomForRecords, OneLine, Listable, Prints}
 use Rattle.listing_text.proofs.Parts.{wrote_length, wrote_both}
@@ -19,6 +20,10 @@ use Rattle.listing_text.proofs.Lines.{numbers_room, line_wrote, refused_short, f
 pub prints : (s text s' : List ℕ) (end : ℕ) → WroteText s 0 text s' end → Prints s text s' end
 unfolding overwritten
 prints s text s' end w = record { fits = omega (arith, w.enough, w.ends); counts = omega (arith, w.ends); bytes = rw zero-add at w.bytes }
+
+-- The same of the lent bytes that a text was made in.
+pub made : (s part s' : List ℕ) (text : Text) → s' ≡ text.bytes.now → WroteText s 0 part text.bytes.now text.length → Prints s part s' text.length
+made s part s' text e w = prints s part s' text.length (rw e w)
 
 pub refused_room : (s : List ℕ) (number place : ℕ) → OneLine s → number < 4294967296 → place < 4294967296 → RoomForPart s 0 (refused_text number place)
 refused_room s number place h k l = record { enough = omega (arith, h.room, refused_short number place k l) }

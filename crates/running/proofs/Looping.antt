@@ -16,6 +16,7 @@ use Rattle.rules.proofs.Agree.{agree}
 use Rattle.rules.proofs.Events.{within}
 use Rattle.rules.proofs.Traces.{total_append}
 use Rattle.steps.specs.declared.state.State.{State}
+use Rattle.steps.specs.declared.state.Step.{Step}
 use Rattle.steps.specs.Stepping.{HoldsTerm, Runs, HasTerm, SeeksTerm, CanStep, After, running, too_large, Stepped, TellsValue}
 use Rattle.steps.proofs.Values.{runs_few}
 use Rattle.running.specs.Running.{ended_after, Running}
@@ -108,28 +109,28 @@ module _ (types : Table) (fuel : ℕ) (rs₀ rs : List Record) (s₀ s : State) 
     -- After the step.
     module _ (l : q.steps < fuel) (rs₂ : List Record) where
       -- It is made.
-      module _ (r : State) (d : Stepped types rs₁ rs₂ q (Some r)) where
+      module _ (r : Step) (d : Stepped types rs₁ rs₂ q (Some r)) where
         made : (first : Term) (k : HoldsTerm types rs₀ s₀ first) → After types rs₂ q (g.each first k).term (Some r)
         made first k = d.does (g.each first k).term (at_redex first k)
 
         -- A step more is counted, and what gave way in it are records of its term.
-        one_more : (r.steps ≡ s.steps + 1) × (r.event.replaced ≤ most_records)
+        one_more : (r.state.steps ≡ s.steps + 1) × (r.event.replaced ≤ most_records)
         one_more = go (g.each g.first g.holds).term (at_redex g.first g.holds) (made g.first g.holds)
           where
-            go : (t : Term) → Runs types rs₁ q t → After types rs₂ q t (Some r) → (r.steps ≡ s.steps + 1) × (r.event.replaced ≤ most_records)
+            go : (t : Term) → Runs types rs₁ q t → After types rs₂ q t (Some r) → (r.state.steps ≡ s.steps + 1) × (r.event.replaced ≤ most_records)
             go t h (running _ u c _ _ e v) =
                 (omega (arith, e, f.steps), omega (arith, ap (λ x. x.replaced) v, (within ((agree types 0 c.event t u).0 c.is_next)).few, runs_few types rs₁ q t h))
 
-        few_more : m + r.event.replaced ≤ most_records * r.steps
+        few_more : m + r.event.replaced ≤ most_records * r.state.steps
         few_more = omega (arith, g.few, one_more.0, one_more.1)
 
         pub going_fits : m + r.event.replaced < 2 ^ 64
         going_fits = omega (arith, few_more, one_more.0, f.steps, g.counts)
 
-        pub going_less : fuel - r.steps < fuel - s.steps
+        pub going_less : fuel - r.state.steps < fuel - s.steps
         going_less = omega (arith, one_more.0, f.steps)
 
-        pub going_on : Going types fuel rs₀ rs₂ s₀ r (m + r.event.replaced)
+        pub going_on : Going types fuel rs₀ rs₂ s₀ r.state (m + r.event.replaced)
         going_on = record {
           unlike = g.unlike;
           counts = g.counts;
@@ -139,7 +140,7 @@ module _ (types : Table) (fuel : ℕ) (rs₀ rs : List Record) (s₀ s : State) 
           each = λ first k. step first k (made first k);
         }
           where
-            step : (first : Term) (k : HoldsTerm types rs₀ s₀ first) → After types rs₂ q (g.each first k).term (Some r) → StandsAt types fuel first rs₂ r (m + r.event.replaced)
+            step : (first : Term) (k : HoldsTerm types rs₀ s₀ first) → After types rs₂ q (g.each first k).term (Some r) → StandsAt types fuel first rs₂ r.state (m + r.event.replaced)
             step first k (running _ u c small w e v) =
                 let a = g.each first k in
                 record {

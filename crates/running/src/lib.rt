@@ -62,8 +62,9 @@ fn run_steps(start: State, table: &[u8], fuel: u32, work: &mut [u8]) -> Halted
             };
         }
         match s.step(table, work) {
-            Some(next) => {
-                s = next;
+            Some(made) => {
+                s = made.state;
+                replaced += made.event.replaced as u64;
             }
             None => {
                 return Halted {
@@ -73,7 +74,6 @@ fn run_steps(start: State, table: &[u8], fuel: u32, work: &mut [u8]) -> Halted
                 };
             }
         }
-        replaced += s.event.replaced as u64;
     }
 }
 

@@ -64,11 +64,10 @@ module _ (program : List Record) (count : ℕ) (rs : List Record) (h : CanStart 
           typed = y;
         }
 
-    pub start_holds : Starts program rs' (record { turn = Next (first_focus (4096 - count)); steps = 0; event = record { rule = 0; place = 0; replaced = 0 } })
+    pub start_holds : Starts program rs' (record { turn = Next (first_focus (4096 - count)); steps = 0 })
     start_holds = record {
       holds = λ types y. record { turned = next (first_focus (4096 - count)) [] (root_tree program) (first_held types y) (omega arith) };
       steps = refl;
-      event = refl;
     }
 
 pub ruleset starting = (start_fits, start_loads, start_holds)

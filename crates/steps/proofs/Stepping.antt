@@ -22,6 +22,7 @@ use Rattle.contraction.specs.Redexes.{CanPlanWhole, TellsRule, PlansWhole}
 use Rattle.matching.specs.Matches.{HasMatch as HasOpen, TellsMatchRule, CanPlanMatch, PlansMatch}
 use Rattle.contraction.specs.Making.{CanMeasure, TellsFits}
 use Rattle.steps.specs.declared.state.State.{State}
+use Rattle.steps.specs.declared.state.Step.{Step}
 use Rattle.steps.specs.declared.state.Aim.{Aim}
 use Rattle.std.specs.Prelude.{Some, None}
 use Rattle.steps.specs.Stepping.{Runs, CanStep, too_large, Stepped}
@@ -104,7 +105,7 @@ module _ (types : Table) (rs : List Record) (s : State) (h : CanStep types rs s)
       pub step_proceeds : b ≡ true → CanProceed rs s a
       step_proceeds e = record { types = types; whole = h.term; contracting = k₀; room = roomy e k₀; counts = h.counts }
 
-      pub step_proceeded : b ≡ true → (rs' : List Record) (r : State) → Proceeds rs rs' s a r → Stepped types rs rs' s (Some r)
+      pub step_proceeded : b ≡ true → (rs' : List Record) (r : Step) → Proceeds rs rs' s a r → Stepped types rs rs' s (Some r)
       step_proceeded e rs' r p = record { does = λ t k. p.does types t (d.does t k) (roomy e (d.does t k)) }
 
       pub step_full : b ≡ false → Stepped types rs rs s None

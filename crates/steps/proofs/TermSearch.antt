@@ -27,8 +27,8 @@ module _ (rs : List Record) (s : State) where
         go types t (next _ C u k l) = record { types = types; context = C; focus = u; whole = t; held = k }
         go types t (sought _ k) = absurd (sought_over types rs t (Next a) k)
 
-    pub seek_found : (rs' : List Record) (x : Turn) → Seeks rs rs' a x → SeeksTerm rs rs' s (record { turn = x; steps = s.steps; event = s.event })
-    seek_found rs' x d = record { does = λ types t h. record { found = go types t (at_turn (Next a) e types t h) }; steps = refl; event = refl }
+    pub seek_found : (rs' : List Record) (x : Turn) → Seeks rs rs' a x → SeeksTerm rs rs' s (record { turn = x; steps = s.steps })
+    seek_found rs' x d = record { does = λ types t h. record { found = go types t (at_turn (Next a) e types t h) }; steps = refl }
       where
         go : (types : Table) (t : Term) → Turned types rs 0 t (Next a) → Sought types rs' t x
         go types t (next _ C u k l) = d.does types C u t k
@@ -36,7 +36,7 @@ module _ (rs : List Record) (s : State) where
 
   -- It is over.
   over : (x : Turn) → NoNext x → s.turn ≡ x → SeeksTerm rs rs s s
-  over x n e = record { does = λ types t h. record { found = subst (Sought types rs t) (sym e) (go types t x n (at_turn x e types t h)) }; steps = refl; event = refl }
+  over x n e = record { does = λ types t h. record { found = subst (Sought types rs t) (sym e) (go types t x n (at_turn x e types t h)) }; steps = refl }
     where
       go : (types : Table) (t : Term) (x : Turn) → NoNext x → Turned types rs 0 t x → Sought types rs t x
       go types t _ n (next b C u k l) = absurd n

@@ -10,6 +10,7 @@ use Rattle.zipper.specs.Layout.{Around}
 use Rattle.contraction.specs.Plans.{Planned}
 use Rattle.steps.specs.declared.state.State.{State}
 use Rattle.steps.specs.declared.state.Aim.{Aim}
+use Rattle.steps.specs.declared.state.Step.{Step}
 use Rattle.steps.specs.Stepping.{Runs, Becomes, After}
 
 -- The state holds the term `whole`, whose next term is u in the context C. The context stands around the hole. The plan says where the parts of u
@@ -47,5 +48,5 @@ pub record CanProceed (rs : List Record) (s : State) (a : Aim) : Type 0 where
   pub room : Roomy contracting
   pub counts : s.steps + 1 < 2 ^ 32
 
-pub record Proceeds (rs rs' : List Record) (s : State) (a : Aim) (r : State) : Type 0 where
+pub record Proceeds (rs rs' : List Record) (s : State) (a : Aim) (r : Step) : Type 0 where
   pub does : (types : Table) (whole : Term) (k : Contracting types rs s a whole) → Roomy k → After types rs' s whole (Some r)

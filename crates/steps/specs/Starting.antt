@@ -21,8 +21,7 @@ pub record CanStart (program : List Record) (count : ℕ) (rs : List Record) : T
   pub few : count ≤ most_records
   pub room : 4096 ≤ length rs
 
--- The first term is held, and no step is made: the event is none's.
+-- The first term is held, and no step is made.
 pub record Starts (program rs' : List Record) (r : State) : Type 0 where
   pub holds : (types : Table) → Typed types [] 0 (root_tree program) → HoldsTerm types rs' r (root_tree program)
   pub steps : r.steps ≡ 0
-  pub event : r.event ≡ record { rule = 0; place = 0; replaced = 0 }

@@ -11,6 +11,7 @@ use Rattle.rules.specs.Format.{Record, most_records}
 use Rattle.navigation.specs.Ascending.{Sought, Turned}
 use Rattle.steps.specs.declared.events.Event.{Event as Told}
 use Rattle.steps.specs.declared.state.State.{State}
+use Rattle.steps.specs.declared.state.Step.{Step}
 
 -- The state holds t, which keeps the rules of its table: at a focus that is to be searched, or where the search is over.
 pub record HoldsTerm (types : Table) (rs : List Record) (s : State) (t : Term) : Type 0 where
@@ -35,7 +36,6 @@ pub record HasRun (rs : List Record) (s : State) : Type 0 where
 pub record SeeksTerm (rs rs' : List Record) (s r : State) : Type 0 where
   pub does : (types : Table) (t : Term) → HoldsTerm types rs s t → Runs types rs' r t
   pub steps : r.steps ≡ s.steps
-  pub event : r.event ≡ s.event
 
 -- r is whether the term is a value.
 pub record TellsValue (s : State) (r : Bool) : Type 0 where
@@ -55,15 +55,15 @@ pub record Becomes (types : Table) (t u : Term) : Type 0 where
   pub event : Event
   pub is_next : next types 0 t ≡ some (record { event = event; term = u })
 
--- An event as a state tells it, its rule by its number.
+-- An event as a step tells it, its rule by its number.
 abbrev pub told : Event → Told
 told e = record { rule = rule_number e.rule; place = e.place; replaced = e.replaced }
 
--- After a step from t: the next term has room, and the step is made, whose event the new state tells; or "the next term has more than 2,048 records", and no
+-- After a step from t: the next term has room, and the step is made, with its event; or "the next term has more than 2,048 records", and no
 -- step is made.
-pub data After (types : Table) (rs' : List Record) (s : State) (t : Term) : Option State → Type 0 where
-  running : (r : State) (u : Term) (b : Becomes types t u) → size u ≤ most_records → HoldsTerm types rs' r u → r.steps ≡ s.steps + 1 → r.event ≡ told b.event → After types rs' s t (Some r)
+pub data After (types : Table) (rs' : List Record) (s : State) (t : Term) : Option Step → Type 0 where
+  running : (r : Step) (u : Term) (b : Becomes types t u) → size u ≤ most_records → HoldsTerm types rs' r.state u → r.state.steps ≡ s.steps + 1 → r.event ≡ told b.event → After types rs' s t (Some r)
   too_large : (u : Term) → Becomes types t u → most_records < size u → Runs types rs' s t → After types rs' s t None
 
-pub record Stepped (types : Table) (rs rs' : List Record) (s : State) (r : Option State) : Type 0 where
+pub record Stepped (types : Table) (rs rs' : List Record) (s : State) (r : Option Step) : Type 0 where
   pub does : (t : Term) → Runs types rs s t → After types rs' s t r

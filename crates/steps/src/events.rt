@@ -1,7 +1,6 @@
-// The event of a step, as the state hands it on.
+// The event of a step, as the step hands it on.
 
-// The rule by its number, the place of the record that was rewritten, the root's being 1, and how many variables gave way. Eight bytes: with six, the
-// compiler keeps every state in memory.
+// The rule by its number, the place of the record that was rewritten, the root's being 1, and how many variables gave way.
 #[derive(Clone, Copy)]
 pub struct Event {
     pub rule: u16,

@@ -5,4 +5,4 @@ mod events; // the event of a step
 mod state; // the state and its step
 
 pub use events::Event;
-pub use state::State;
+pub use state::{State, Step};

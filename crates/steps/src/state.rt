@@ -17,12 +17,17 @@ const MOST: usize = kinds::MOST_RECORDS as usize;
 // How many slots of the work buffer hold the term around its focus.
 const SLOTS: usize = 4096;
 
-// Where a run stands: at a focus that is to be searched, at a value, or at the record that is rewritten next. `steps` are made, and `event` is that of the
-// last one, all 0 before the first.
+// Where a run stands: at a focus that is to be searched, at a value, or at the record that is rewritten next. `steps` are made.
 #[derive(Clone, Copy)]
 pub struct State {
     pub turn: Turn,
     pub steps: u32,
+}
+
+// A step that is made: the state after it, and its event.
+#[derive(Clone, Copy)]
+pub struct Step {
+    pub state: State,
     pub event: Event,
 }
 
@@ -52,11 +57,6 @@ impl State {
         State {
             turn: Turn::Next(first),
             steps: 0,
-            event: Event {
-                rule: 0,
-                place: 0,
-                replaced: 0,
-            },
         }
     }
 
@@ -66,12 +66,10 @@ impl State {
         ensures { SeeksTerm (records_in work.old) (records_in work.new) self result }
     {
         let turn = self.turn;
-        let event = self.event;
         match turn {
             Turn::Next(a) => State {
                 turn: seek_from(work, a),
                 steps: self.steps,
-                event,
             },
             Turn::Value(_) => self,
             Turn::Redex(_, _) => self,
@@ -117,7 +115,7 @@ impl State {
     }
 
     // Makes what the focus becomes and puts it into the hole. There is room for it; the slots from `aim.free` to the right side are free.
-    fn proceed(self, work: &mut [u8], aim: Aim) -> State
+    fn proceed(self, work: &mut [u8], aim: Aim) -> Step
         requires { CanProceed (records_in work.old) self aim }
         ensures { Proceeds (records_in work.old) (records_in work.new) self aim result }
     {
@@ -125,9 +123,11 @@ impl State {
         let hole = aim.hole;
         let made = contraction::make(work, plan, aim.free);
         let next = zipper::put_ahead(work, hole, made.at, made.size);
-        State {
-            turn: Turn::Next(next),
-            steps: self.steps + 1,
+        Step {
+            state: State {
+                turn: Turn::Next(next),
+                steps: self.steps + 1,
+            },
             event: Event {
                 rule: aim.rule,
                 place: (hole.l + 1) as u16,
@@ -136,8 +136,8 @@ impl State {
         }
     }
 
-    // One step of a term that isn't a value: the next term, or none where it has more than 2,048 records, and the term stays as it is.
-    pub fn step(self, table: &[u8], work: &mut [u8]) -> Option<State>
+    // One step of a term that isn't a value: the state at the next term, or none where that has more than 2,048 records, and the term stays as it is.
+    pub fn step(self, table: &[u8], work: &mut [u8]) -> Option<Step>
         requires { CanStep (entries_in table.now) (records_in work.old) self }
         ensures { Stepped (entries_in table.now) (records_in work.old) (records_in work.new) self result }
     {
