@@ -17,8 +17,7 @@ use Rattle.records.specs.View.{records_in}
 use Rattle.records.specs.Meant.{record_meant}
 use Rattle.records.specs.declared.Record.{Record}
 use Rattle.parts.specs.declared.Parts.{Parts}
-use Rattle.parts.specs.Layout.{IsLaidOut, ArePartsOf}
-use Rattle.parts.proofs.Parting.{meets_laid_out}
+use Rattle.parts.specs.Layout.{ArePartsOf}
 
 module _ (p : List ℕ) (e : Edition) (first : edition_meant e ≡ first_edition) where
   pub check_refused : (m : Refusal) → some m ≡ refusal (edition_meant e) p → failing m.number m.place ≡ check_answer first_edition p
@@ -34,9 +33,6 @@ module _ (p : List ℕ) (e : Edition) (first : edition_meant e ≡ first_edition
   check_meets told = (exactly first_edition p).0 (sym (rw first at told))
 
 module _ (p : List ℕ) (meets : Meets first_edition p) where
-  pub passed_laid_out : IsLaidOut p
-  passed_laid_out = meets_laid_out first_edition p meets
-
   module _ (parts : Parts) (a : ArePartsOf p parts) where
     pub passing_root : 0 < length (records_in parts.records.now)
     passing_root = omega (arith, a.records_counted, a.count, meets.layout.counts.1.0)
@@ -47,4 +43,4 @@ module _ (p : List ℕ) (meets : Meets first_edition p) where
   pub check_passed : (root R : ℕ) → root ≡ type_no (records_of p) 1 → R ≡ record_count p → passing root R ≡ check_answer first_edition p
   check_passed root R e eR = ap₂ passing e eR ∙ sym (answered first_edition p ((exactly first_edition p).1 meets))
 
-pub ruleset checking = (passed_laid_out, passing_root, root_told, check_passed)
+pub ruleset checking = (passing_root, root_told, check_passed)

@@ -1,14 +1,11 @@
--- The parts of a program as slices of it: `parting` for search; and which programs have them.
+-- The parts of a program as slices of it: `parting` for search.
 use Prim.Native.Nat.{ℕ, ◌+◌, ◌*◌, ◌-◌, ◌≤◌, ◌<◌}
 use native.Mathlib.Omega.{arith}
 use mathlib.Core.List.{List}
 use mathlib.Core.Path.{◌≡◌, sym, ap, ◌∙◌}
 use lib.ListN.{length, take, drop, length-drop}
-use lib.Seq.{take_all}
-use Rattle.rules.specs.Editions.{Edition}
-use Rattle.rules.specs.FieldUses.{TypeFields}
+use lib.Seq.{length-take-le, take_all}
 use Rattle.rules.specs.Format.{type_count, record_count, table_of, records_of}
-use Rattle.rules.specs.Meets.{MeetsLayout, Meets}
 use Rattle.rules.proofs.Meaning.{types_counted, records_counted}
 use Rattle.records.specs.View.{entries_in, records_in}
 use Rattle.records.proofs.Program.{program_table_slice, program_records_slice}
@@ -35,23 +32,18 @@ module _ (p : List ℕ) (h : IsLaidOut p) where
     parts_are R eR r rT rR table records =
         let entries_are : entries_in r.table.now ≡ table_of p = ap entries_in table ∙ sym (program_table_slice p h.exact (4 + 6 * T) end) in
         let records_are : records_in r.records.now ≡ records_of p = ap records_in records ∙ sym (program_records_slice p h.exact (4 + 6 * T) end) in
-        let length_is : 4 + 6 * T - 4 ≡ 6 * type_count p = omega (arith, eT) in
+        let six_each : 4 + 6 * T - 4 ≡ 6 * T = omega arith in
+        let within : 6 * T ≤ length (drop 4 p) = omega (arith, length-drop 4 p, h.exact, eT) in
         record {
           types = rT ∙ eT;
           count = rR ∙ eR;
-          table = table ∙ ap (λ n. take n (drop 4 p)) length_is;
+          table = table ∙ ap (λ n. take n (drop 4 p)) (six_each ∙ ap (λ n. 6 * n) eT);
           records = records ∙ take_all _ (drop (4 + 6 * T) p) (omega (arith, length-drop (4 + 6 * T) p)) ∙ ap (λ n. drop n p) end;
           entries_are = entries_are;
           records_are = records_are;
+          table_long = ap length table ∙ ap (λ n. length (take n (drop 4 p))) six_each ∙ length-take-le (6 * T) (drop 4 p) within ∙ ap (λ n. 6 * n) (sym rT);
           entries_counted = ap length entries_are ∙ types_counted p ∙ sym (rT ∙ eT);
           records_counted = ap length records_are ∙ records_counted p ∙ sym (rR ∙ eR);
         }
-
--- Programs that are laid out.
-pub layout_laid_out : (fields : TypeFields) (edition : Edition) (p : List ℕ) → MeetsLayout fields edition p → IsLaidOut p
-layout_laid_out fields edition p m = record { exact = m.exact }
-
-pub meets_laid_out : (edition : Edition) (p : List ℕ) → Meets edition p → IsLaidOut p
-meets_laid_out edition p m = record { exact = m.layout.exact }
 
 pub ruleset parting = (types_there, count_there, table_there)

@@ -23,5 +23,6 @@ pub record ArePartsOf (program : List ℕ) (parts : Parts) : Type 0 where
   pub records : parts.records.now ≡ records_part program
   pub entries_are : entries_in parts.table.now ≡ table_of program
   pub records_are : records_in parts.records.now ≡ records_of program
+  pub table_long : length parts.table.now ≡ 6 * parts.types
   pub entries_counted : length (entries_in parts.table.now) ≡ parts.types
   pub records_counted : length (records_in parts.records.now) ≡ parts.count

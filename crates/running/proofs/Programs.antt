@@ -15,8 +15,7 @@ use Rattle.rules.proofs.Meaning.{root_size, unlike}
 use Rattle.records.specs.View.{entries_in, records_in}
 use Rattle.records.proofs.Records.{records_length}
 use Rattle.parts.specs.declared.Parts.{Parts}
-use Rattle.parts.specs.Layout.{IsLaidOut, ArePartsOf}
-use Rattle.parts.proofs.Parting.{meets_laid_out}
+use Rattle.parts.specs.Layout.{ArePartsOf}
 use Rattle.terms.proofs.Loaded.{form_linked}
 use Rattle.steps.specs.declared.state.State.{State}
 use Rattle.steps.specs.Starting.{CanStart, Starts}
@@ -28,9 +27,6 @@ use Rattle.running.specs.Programs.{CanRunProgram, RunsProgram}
 module _ (edition : Edition) (p out work : List ℕ) (h : CanRunProgram edition p out work) where
   m : Meets edition p
   m = h.meets
-
-  pub run_laid_out : IsLaidOut p
-  run_laid_out = meets_laid_out edition p m
 
   module _ (parts : Parts) (a : ArePartsOf p parts) where
     first_typed : Typed (entries_in parts.table.now) [] 0 (root_tree (records_in parts.records.now))
@@ -55,9 +51,6 @@ module _ (edition : Edition) (p out work : List ℕ) (h : CanRunProgram edition 
       holds : HoldsTerm (entries_in parts.table.now) rs₁ s first
       holds = st.holds (entries_in parts.table.now) first_typed
 
-      table_long : length parts.table.now ≡ 6 * parts.types
-      table_long = rw (a.table, a.types) (omega (arith, length-take (6 * type_count p) (drop 4 p), length-drop 4 p, m.layout.exact))
-
       pub program_finishes : CanFinish parts.table.now parts.types rs₁ s out
       program_finishes = record {
         run = record {
@@ -66,7 +59,7 @@ module _ (edition : Edition) (p out work : List ℕ) (h : CanRunProgram edition 
           none = st.steps;
           unlike = rw a.entries_are (unlike (table_of p) m.layout.form.entries);
         };
-        entries = table_long;
+        entries = a.table_long;
         some_types = omega (arith, a.types, m.layout.counts.0);
         few_types = omega (arith, a.types, m.layout.counts.0);
         room = h.room;
@@ -75,4 +68,4 @@ module _ (edition : Edition) (p out work : List ℕ) (h : CanRunProgram edition 
       pub program_runs : (fuel : ℕ) (out' : List ℕ) (r : Completion) → Finishes parts.table.now fuel rs₁ s out out' r → RunsProgram p fuel out out' r
       program_runs fuel out' r fi = record { does = rw (← a.entries_are, ← a.records_are) (fi.does first holds) }
 
-pub ruleset running_programs = (run_laid_out, program_starts, program_finishes, program_runs)
+pub ruleset running_programs = (program_starts, program_finishes, program_runs)
