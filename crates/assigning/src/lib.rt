@@ -26,20 +26,12 @@ fn wanted(table: &[u8], binders: &[u32], depth: usize, r: Record, x: u16, y: u16
     ensures { Wants (entries_in table.now) (stack binders.now depth) r x y result }
 {
     match Kind::of(r.kind) {
-        Kind::Number => Candidate::Made(Entry {
-            kind: 1,
-            a: 0,
-            b: 0,
-        }),
+        Kind::Number => Candidate::Made(Entry::nat()),
         Kind::Variable => {
             let b = judging::binder_at(binders, depth, r.a);
             Candidate::Known(b.ty)
         }
-        Kind::Function => Candidate::Made(Entry {
-            kind: 2,
-            a: r.a,
-            b: x,
-        }),
+        Kind::Function => Candidate::Made(Entry::function(r.a, x)),
         Kind::Application => {
             let e = judging::entry_if_any(table, x);
             Candidate::Known(e.b)
@@ -48,11 +40,7 @@ fn wanted(table: &[u8], binders: &[u32], depth: usize, r: Record, x: u16, y: u16
             let e = judging::entry_if_any(table, x);
             Candidate::Known(e.a)
         }
-        Kind::Lift | Kind::Quote => Candidate::Made(Entry {
-            kind: 3,
-            a: x,
-            b: 0,
-        }),
+        Kind::Lift | Kind::Quote => Candidate::Made(Entry::code(x)),
         _ => Candidate::Known(y),
     }
 }

@@ -8,7 +8,7 @@ use Rattle.rules.specs.Terms.{Term, size}
 use Rattle.rules.specs.Indices.{replacing, replaced, gave_way}
 use Rattle.rules.specs.Format.{Record}
 use Rattle.rules.proofs.Shifts.{raised_none}
-use Rattle.terms.specs.Preorder.{preorder, HasTree, Skips}
+use Rattle.terms.specs.Preorder.{preorder}
 use Rattle.terms.proofs.There.{there_put, there_stays}
 use Rattle.terms.proofs.Trees.{length_preorder}
 use Rattle.substitution.specs.declared.arguments.Argument.{Argument}
@@ -18,10 +18,9 @@ use Rattle.copies.specs.Copying.{CopyAt, CanCopy, Written}
 use Rattle.substitution.specs.Making.{MakingAt, CanCopyArgument, CopiesArgument}
 use Rattle.substitution.specs.Replacing.{Replacing, Replaces}
 use Rattle.contraction.specs.declared.plans.Plan.{Plan}
-use Rattle.contraction.specs.declared.plans.Plan.TheVariants.{Tree, Body, Made as MadeOf}
-use Rattle.contraction.specs.Plans.{Planned}
+use Rattle.contraction.specs.declared.plans.Plan.TheVariants.{Body, Made as MadeOf}
 use Rattle.contraction.specs.Making.{Makes, CanMake, Made, MakesBlock}
-use Rattle.contraction.proofs.PlannedForms.{FromBody, planned_itself, planned_body, planned_anew}
+use Rattle.contraction.proofs.PlannedForms.{FromBody, planned_body, planned_anew}
 
 -- A contractum that was written to the free records.
 written_made : {rs : List Record} {plan : Plan} {dst hi end n : ℕ} {u : Term} → Makes rs plan dst hi end n u → (rs' : List Record) (e k : ℕ) → Written rs rs' dst u e → k ≡ n
@@ -37,27 +36,6 @@ written_made {rs} {dst = dst} {u = u} h rs' e k w c =
     }
 
 module _ (rs : List Record) (plan : Plan) where
-  -- The tree as it is.
-  module _ (at m : ℕ) (e : plan ≡ Tree at m) where
-    pub tree_there : (lo hi end n : ℕ) (u : Term) → Planned rs lo hi end plan n u → HasTree rs at
-    tree_there lo hi end n u h = record { tree = u; there = (planned_itself at m e h).there }
-
-    pub tree_up : (lo hi end n : ℕ) (u : Term) → Planned rs lo hi end plan n u → (a : ℕ) → Skips rs at a → at ≤ a
-    tree_up lo hi end n u h a k = omega (arith, k.is u (planned_itself at m e h).there)
-
-    pub tree_made : (dst a : ℕ) → Skips rs at a → MakesBlock rs rs plan dst (record { at = at; size = a - at; replaced = m })
-    tree_made dst a k = record {
-      does = λ hi end n u h.
-          let t = planned_itself at m e h.planned in
-          record {
-            there = t.there;
-            long = omega (arith, k.is u t.there);
-            counted = t.counted;
-            clear = ⊎_elim (λ x. inl (omega (arith, h.room))) (λ x. inr x) t.clear;
-            others = λ i xs s o. s;
-          };
-    }
-
   -- A body with its variables replaced.
   module _ (at : ℕ) (g : Arguments) (e : plan ≡ Body at g) (dst : ℕ) where
     module _ {hi end n : ℕ} {u : Term} (h : Makes rs plan dst hi end n u) where
@@ -123,4 +101,4 @@ module _ (rs : List Record) (plan : Plan) where
       pub anew_made : MakesBlock rs rs' plan dst (record { at = dst; size = a - dst; replaced = 0 })
       anew_made = record { does = λ hi end n u h. written_made h rs' a 0 (anew_written h) (planned_anew g e h.planned).none }
 
-pub ruleset making = (tree_there, tree_up, tree_made, body_asks, body_up, body_made, anew_asks, anew_up, anew_made)
+pub ruleset making = (body_asks, body_up, body_made, anew_asks, anew_up, anew_made)

@@ -13,6 +13,8 @@ use Rattle.rules.specs.Format.{Record}
 use Rattle.rules.proofs.KindTable.{kind_back}
 use Rattle.rules.proofs.FreeBounds.{replaced_closed}
 use Rattle.rules.proofs.Shifts.{raised_none}
+use Rattle.kinds.specs.Named.{kind_meant}
+use Rattle.kinds.specs.declared.names.Kind.{Kind}
 use Rattle.terms.specs.Measuring.{KindIs, BoundIs}
 use Rattle.terms.proofs.Trees.{kind_read}
 use Rattle.substitution.specs.declared.arguments.Argument.TheVariants.{Tree as TreeAt}
@@ -44,10 +46,10 @@ itself_replaced t (binary k f u v) c b = absurd (omega arith)
 itself_replaced t (ternary k f u v w) c b = absurd (omega arith)
 
 module _ (rs : List Record) (at arg : ℕ) where
-  pub variable_planned : (b : ℕ) → BoundIs rs at b → b ≡ 1 → (k : ℕ) → KindIs rs at k → (n : ℕ) → n ≡ child_count (kind_of k) → n ≡ 0 → PlansTree rs at arg (Tree arg 1)
+  pub variable_planned : (b : ℕ) → BoundIs rs at b → b ≡ 1 → (k : Kind) → KindIs rs at k → (n : ℕ) → n ≡ child_count (kind_meant k) → n ≡ 0 → PlansTree rs at arg (Tree arg 1)
   variable_planned b h e k q n c z = record {
     is = λ lo hi end body t there clear low given before _.
-        let none : child_count (root_kind body) ≡ 0 = ap child_count (sym (kind_back (root_kind body)) ∙ ap kind_of (sym (q.is ∙ kind_read rs at body there))) ∙ sym c ∙ z in
+        let none : child_count (root_kind body) ≡ 0 = ap child_count (sym (q.is ∙ ap kind_of (kind_read rs at body there) ∙ kind_back (root_kind body))) ∙ sym c ∙ z in
         let (r, g) = itself_replaced t body none (sym (h.is body there) ∙ e) in
         rw (r, g) (itself arg 1 t given (inl before));
   }

@@ -12,15 +12,10 @@ use Rattle.substitution.specs.declared.arguments.Argument.{Argument}
 use Rattle.substitution.specs.declared.arguments.Arguments.{Arguments}
 use Rattle.copies.specs.Copying.{Outside}
 use Rattle.contraction.specs.declared.plans.Plan.{Plan}
-use Rattle.contraction.specs.declared.plans.Plan.TheVariants.{Tree, Body, Made}
-use Rattle.contraction.specs.Plans.{Stands, AllStand, Clear, Planned, itself, from_body, anew}
+use Rattle.contraction.specs.declared.plans.Plan.TheVariants.{Body, Made}
+use Rattle.contraction.specs.Plans.{Stands, AllStand, Planned, from_body, anew}
 
 module _ (rs : List Record) (lo hi end n : ℕ) (u : Term) where
-  pub record Itself (at m : ℕ) : Type 0 where
-    pub there : At rs at u
-    pub clear : Clear lo hi end at (size u)
-    pub counted : m ≡ n
-
   pub record FromBody (at : ℕ) (g : Arguments) : Type 0 where
     pub body : Term
     pub terms : List Term
@@ -36,17 +31,11 @@ module _ (rs : List Record) (lo hi end n : ℕ) (u : Term) where
     pub none : 0 ≡ n
 
 module _ {rs : List Record} {lo hi end : ℕ} where
-  by_tree : {at m n : ℕ} {u : Term} → Planned rs lo hi end (Tree at m) n u → Itself rs lo hi end n u at m
-  by_tree (itself at n u there clear) = record { there = there; clear = clear; counted = refl }
-
   by_body : {at n : ℕ} {g : Arguments} {u : Term} → Planned rs lo hi end (Body at g) n u → FromBody rs lo hi end n u at g
   by_body (from_body at g body ts there outside low given) = record { body = body; terms = ts; there = there; outside = outside; low = low; given = given; counted = refl; is = refl }
 
   by_made : {n : ℕ} {g : Argument} {u : Term} → Planned rs lo hi end (Made g) n u → Anew rs lo hi end n u g
   by_made (anew g u given) = record { given = given; none = refl }
-
-  pub planned_itself : {plan : Plan} {n : ℕ} {u : Term} (at m : ℕ) → plan ≡ Tree at m → Planned rs lo hi end plan n u → Itself rs lo hi end n u at m
-  planned_itself at m e h = by_tree (rw e at h)
 
   pub planned_body : {plan : Plan} {n : ℕ} {u : Term} (at : ℕ) (g : Arguments) → plan ≡ Body at g → Planned rs lo hi end plan n u → FromBody rs lo hi end n u at g
   planned_body at g e h = by_body (rw e at h)

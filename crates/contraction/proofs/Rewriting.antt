@@ -4,25 +4,29 @@ use native.Mathlib.Omega.{arith}
 use mathlib.Core.List.{List, [], ◌∷◌}
 use mathlib.Core.Logic.{inl}
 use mathlib.Core.Path.{◌≡◌, refl, ap, sym, subst, ◌∙◌}
-use lib.Dec.{eqb}
 use lib.ListN.{length, get_or}
-use borrow.Author.Tests.{ne_eqb}
 use mir.Syntax.{w64}
 use mir.Val.{Fits}
-use Rattle.rules.specs.Lists.{pick}
-use Rattle.rules.specs.Kinds.{number, function, fix, lift, quote, splice, application, kind_number}
+use Rattle.std.proofs.lemmas.Grind.{common_steps}
+use Rattle.rules.specs.Kinds.{number, function, fix, lift, quote, splice, application, kind_number, kind_of}
 use Rattle.rules.specs.Terms.{Term, leaf, unary, root_kind, size}
 use Rattle.rules.specs.Indices.{replaced, gave_way}
 use Rattle.rules.specs.Types.{Table}
-use Rattle.rules.specs.Contractions.{StepRule, on_application, on_fix, on_lift, on_splice, on_success, on_failure, rule_number, Contraction, apply, unroll, lifted, spliced, succeeds, fails}
+use Rattle.rules.specs.Contractions.{StepRule, on_application, on_fix, on_lift, on_splice, rule_number, Contraction, apply, unroll, lifted, spliced, succeeds, fails}
 use Rattle.rules.specs.Format.{Record, no_record}
 use Rattle.rules.proofs.FreeBounds.{typed_bound}
-use Rattle.rules.proofs.RuleKinds.{rule_kind, rewrites_kind, match_range}
+use Rattle.rules.proofs.KindTable.{kind_back}
+use Rattle.rules.proofs.RuleKinds.{rule_kind, rewrites_kind}
+use Rattle.kinds.specs.Named.{kind_meant}
+use Rattle.kinds.specs.declared.names.Kind.{Kind}
+use Rattle.kinds.specs.declared.names.Kind.TheVariants.{Application, Fix, Lift}
 use Rattle.records.specs.declared.Record.{Record as Read}
 use Rattle.records.specs.Meant.{record_meant}
 use Rattle.records.specs.View.{records_in}
 use Rattle.records.proofs.Records.{records_length}
 use Rattle.terms.specs.Preorder.{HasTree, Skips}
+use Rattle.terms.specs.Measuring.{HasKind, KindIs}
+use Rattle.terms.proofs.Readings.{tree_kind}
 use Rattle.terms.proofs.Trees.{at_first, at_head, at_within}
 use Rattle.substitution.specs.declared.arguments.Argument.TheVariants.{Quote}
 use Rattle.contraction.specs.declared.plans.Plan.{Plan}
@@ -154,69 +158,81 @@ module _ (rs : List Record) (s : ℕ) where
           let i = only_child rs lo (s + 1) (s + 2) quote g c (omega arith) (only_child rs lo s (s + 1) splice f (unary quote g c) refl h) in
           itself (s + 2) 0 c i.there (inl i.upto)
 
--- Which rule it is, by the record x that is read: each kind that is no match has one.
+-- Which rule it is, by the kind k that is read: each kind that is no match has one.
 abbrev rewritten_kind : StepRule → ℕ
 rewritten_kind r = kind_number (rule_kind r)
 
-abbrev rule_at : ℕ → StepRule
-rule_at n = pick (eqb n 4) on_application (pick (eqb n 5) on_fix (pick (eqb n 6) on_lift on_splice))
+same_rule : (q r : StepRule) → rule_kind q ≡ rule_kind r → rewritten_kind q < 9 → q ≡ r
+same_rule q r e l = grind (arith, common_steps)
 
-rule_at_lem : (r : StepRule) → rewritten_kind r < 9 → r ≡ rule_at (rewritten_kind r)
-rule_at_lem on_application z = refl
-rule_at_lem on_fix z = refl
-rule_at_lem on_lift z = refl
-rule_at_lem on_splice z = refl
-rule_at_lem (on_success k) z = absurd (omega (arith, match_range k))
-rule_at_lem (on_failure k) z = absurd (omega (arith, match_range k))
+-- What is left where the other kinds are ruled out is a splice.
+only_splice : (k : Kind) (r : StepRule) → kind_meant k ≡ rule_kind r → rewritten_kind r < 9 → (k ≡ Application → ⊥) → (k ≡ Fix → ⊥) → (k ≡ Lift → ⊥) → r ≡ on_splice
+only_splice k r e l a b c = grind (arith, common_steps)
 
-only_splice : (r : StepRule) → rewritten_kind r < 9 → (rewritten_kind r ≡ 4 → ⊥) → (rewritten_kind r ≡ 5 → ⊥) → (rewritten_kind r ≡ 6 → ⊥) → r ≡ on_splice
-only_splice r z a b c = rule_at_lem r z ∙ (rw (ne_eqb (rewritten_kind r) 4 a, ne_eqb (rewritten_kind r) 5 b, ne_eqb (rewritten_kind r) 6 c))
+pub whole_known : (rs : List Record) (s : ℕ) → CanPlanWhole rs s → HasKind rs s
+whole_known rs s v = tree_kind rs s (before_has (redex_before v.has.found))
 
-pub whole_in : (rs : List Record) (s : ℕ) → CanPlanWhole rs s → s < length rs
-whole_in rs s v = redex_in rs s v.rule v.has
+module _ (rs : List Record) (s : ℕ) where
+  module _ (k : Kind) (e : KindIs rs s k) where
+    rule_read : {types : Table} {lo n : ℕ} {rule : StepRule} {u : Term} (h : RedexAt types rs s lo rule n u) → kind_meant k ≡ rule_kind rule
+    rule_read h = e.is ∙ ap (λ y. kind_of y.kind) (at_head rs s h.redex h.there) ∙ kind_back (root_kind h.redex) ∙ rewrites_kind h.contraction
 
-module _ (rs : List Record) (s : ℕ) (x : Read) (ex : record_meant x ≡ get_or rs s no_record) where
-  rule_read : {types : Table} {lo n : ℕ} {rule : StepRule} {u : Term} (h : RedexAt types rs s lo rule n u) → x.kind ≡ rewritten_kind rule
-  rule_read h = ap (λ y. y.kind) (ex ∙ at_head rs s h.redex h.there) ∙ ap kind_number (rewrites_kind h.contraction)
+    low_kind : {types : Table} {lo n : ℕ} {rule : StepRule} {u : Term} (h : RedexAt types rs s lo rule n u) → kind_number (root_kind h.redex) < 9 → rewritten_kind rule < 9
+    low_kind h z = omega (arith, ap kind_number (rewrites_kind h.contraction))
 
-  low_kind : {types : Table} {lo n : ℕ} {rule : StepRule} {u : Term} (h : RedexAt types rs s lo rule n u) → kind_number (root_kind h.redex) < 9 → rewritten_kind rule < 9
-  low_kind h z = omega (arith, ap kind_number (rewrites_kind h.contraction))
+    module _ (r : StepRule) (w : kind_meant k ≡ rule_kind r) where
+      rule_is : {types : Table} {lo n : ℕ} {rule : StepRule} {u : Term} (h : RedexAt types rs s lo rule n u) → kind_number (root_kind h.redex) < 9 → rule ≡ r
+      rule_is {rule = rule} h z = same_rule rule r (sym (rule_read h) ∙ w) (low_kind h z)
 
-  module _ (r : StepRule) (w : x.kind ≡ rewritten_kind r) where
-    rule_is : {types : Table} {lo n : ℕ} {rule : StepRule} {u : Term} (h : RedexAt types rs s lo rule n u) → kind_number (root_kind h.redex) < 9 → rule ≡ r
-    rule_is {rule = rule} h z =
-        let e = rule_read h in
-        rule_at_lem rule (low_kind h z) ∙ ap rule_at (sym e ∙ w) ∙ sym (rule_at_lem r (omega (arith, low_kind h z)))
+      redex_there : CanPlanWhole rs s → HasRedex rs s r
+      redex_there v = subst (HasRedex rs s) (rule_is v.has.found v.whole) v.has
 
-    pub redex_there : CanPlanWhole rs s → HasRedex rs s r
-    redex_there v = subst (HasRedex rs s) (rule_is v.has.found v.whole) v.has
+      redex_planned : (q : Plan) → PlansRedex rs s r q → PlansWhole rs s q
+      redex_planned q plans = record {
+        is = λ types lo hi end rule n u h z. plans.is types lo hi end n u (subst (λ r. RedexAt types rs s lo r n u) (rule_is h z) h);
+      }
 
-    pub redex_planned : (q : Plan) → PlansRedex rs s r q → PlansWhole rs s q
-    redex_planned q plans = record {
-      is = λ types lo hi end rule n u h z. plans.is types lo hi end n u (subst (λ r. RedexAt types rs s lo r n u) (rule_is h z) h);
-    }
+      rule_told : TellsRule rs s (rule_number r)
+      rule_told = record { is = λ types lo rule n u h z. ap rule_number (sym (rule_is h z)) }
 
-    rule_told : TellsRule rs s (rule_number r)
-    rule_told = record { is = λ types lo rule n u h z. ap rule_number (sym (rule_is h z)) }
+    module _ (a : k ≡ Application → ⊥) (b : k ≡ Fix → ⊥) (c : k ≡ Lift → ⊥) where
+      only_left : {types : Table} {lo n : ℕ} {rule : StepRule} {u : Term} (h : RedexAt types rs s lo rule n u) → kind_number (root_kind h.redex) < 9 → rule ≡ on_splice
+      only_left {rule = rule} h z = only_splice k rule (rule_read h) (low_kind h z) a b c
 
-  pub application_told : x.kind ≡ 4 → TellsRule rs s 1
-  application_told = rule_told on_application
+      pub splice_told : TellsRule rs s 4
+      splice_told = record { is = λ types lo rule n u h z. ap rule_number (sym (only_left h z)) }
 
-  pub fix_told : x.kind ≡ 5 → TellsRule rs s 2
-  fix_told = rule_told on_fix
+      pub splice_left : PlansWhole rs s (Tree (s + 2) 0)
+      splice_left = record { is = λ types lo hi end rule n u h z. (splice_plans rs s).is types lo hi end n u (subst (λ r. RedexAt types rs s lo r n u) (only_left h z) h) }
 
-  pub lift_told : x.kind ≡ 6 → TellsRule rs s 3
-  lift_told = rule_told on_lift
+  module _ (e : KindIs rs s Application) where
+    pub application_told : TellsRule rs s 1
+    application_told = rule_told Application e on_application refl
 
-  -- What is left where the other kinds are ruled out is a splice.
-  module _ (a : x.kind ≡ 4 → ⊥) (b : x.kind ≡ 5 → ⊥) (c : x.kind ≡ 6 → ⊥) where
-    only_left : {types : Table} {lo n : ℕ} {rule : StepRule} {u : Term} (h : RedexAt types rs s lo rule n u) → kind_number (root_kind h.redex) < 9 → rule ≡ on_splice
-    only_left {rule = rule} h z = let w = rule_read h in only_splice rule (low_kind h z) (λ k. a (w ∙ k)) (λ k. b (w ∙ k)) (λ k. c (w ∙ k))
+    pub application_there : CanPlanWhole rs s → HasRedex rs s on_application
+    application_there = redex_there Application e on_application refl
 
-    pub splice_told : TellsRule rs s 4
-    splice_told = record { is = λ types lo rule n u h z. ap rule_number (sym (only_left h z)) }
+    pub application_planned : (q : Plan) → PlansRedex rs s on_application q → PlansWhole rs s q
+    application_planned = redex_planned Application e on_application refl
 
-    pub splice_left : PlansWhole rs s (Tree (s + 2) 0)
-    splice_left = record { is = λ types lo hi end rule n u h z. (splice_plans rs s).is types lo hi end n u (subst (λ r. RedexAt types rs s lo r n u) (only_left h z) h) }
+  module _ (e : KindIs rs s Fix) where
+    pub fix_told : TellsRule rs s 2
+    fix_told = rule_told Fix e on_fix refl
 
-pub ruleset rewriting = (child_fits, grandchild_fits, behind_child_fits, redex_in, function_there, body_of_function, body_of_fix, apply_plans, unroll_plans, lift_plans, whole_in, redex_there, redex_planned, application_told, fix_told, lift_told, splice_told, splice_left)
+    pub fix_there : CanPlanWhole rs s → HasRedex rs s on_fix
+    fix_there = redex_there Fix e on_fix refl
+
+    pub fix_planned : (q : Plan) → PlansRedex rs s on_fix q → PlansWhole rs s q
+    fix_planned = redex_planned Fix e on_fix refl
+
+  module _ (e : KindIs rs s Lift) where
+    pub lift_told : TellsRule rs s 3
+    lift_told = rule_told Lift e on_lift refl
+
+    pub lift_there : CanPlanWhole rs s → HasRedex rs s on_lift
+    lift_there = redex_there Lift e on_lift refl
+
+    pub lift_planned : (q : Plan) → PlansRedex rs s on_lift q → PlansWhole rs s q
+    lift_planned = redex_planned Lift e on_lift refl
+
+pub ruleset rewriting = (child_fits, grandchild_fits, behind_child_fits, redex_in, function_there, body_of_function, body_of_fix, apply_plans, unroll_plans, lift_plans, whole_known, application_told, application_there, application_planned, fix_told, fix_there, fix_planned, lift_told, lift_there, lift_planned, splice_told, splice_left)

@@ -1,5 +1,5 @@
 -- `fits`: a law for each thing that its body asks. `measuring` for search.
-use Prim.Native.Nat.{ℕ, ◌-◌}
+use Prim.Native.Nat.{ℕ}
 use native.Mathlib.Omega.{arith}
 use mathlib.Core.Bool.{Bool, true}
 use mathlib.Core.List.{List}
@@ -7,23 +7,16 @@ use mathlib.Core.Path.{◌≡◌, ap, ◌∙◌}
 use lib.Dec.{leb}
 use Rattle.rules.specs.Terms.{Term, size}
 use Rattle.rules.specs.Format.{Record}
-use Rattle.terms.specs.Preorder.{Skips}
 use Rattle.substitution.specs.declared.arguments.Argument.{Argument}
 use Rattle.substitution.specs.declared.arguments.Arguments.{Arguments}
 use Rattle.sizes.specs.Counting.{HasArgument, Measures, CanFit, TellsRoom}
 use Rattle.contraction.specs.declared.plans.Plan.{Plan}
-use Rattle.contraction.specs.declared.plans.Plan.TheVariants.{Tree, Body, Made}
+use Rattle.contraction.specs.declared.plans.Plan.TheVariants.{Body, Made}
 use Rattle.contraction.specs.Plans.{Planned}
 use Rattle.contraction.specs.Making.{TellsFits}
-use Rattle.contraction.proofs.PlannedForms.{planned_itself, planned_body, planned_anew}
-use Rattle.contraction.proofs.Contracta.{tree_there, tree_up}
+use Rattle.contraction.proofs.PlannedForms.{planned_body, planned_anew}
 
 module _ (rs : List Record) (plan : Plan) (room : ℕ) where
-  pub tree_fits : (at m : ℕ) → plan ≡ Tree at m → (a : ℕ) → Skips rs at a → TellsFits rs plan room (leb (a - at) room)
-  tree_fits at m e a k = record {
-    is = λ lo hi end n u h. let q : a - at ≡ size u = omega (arith, k.is u (planned_itself at m e h).there) in ap (λ x. leb x room) q;
-  }
-
   module _ (at : ℕ) (g : Arguments) (e : plan ≡ Body at g) where
     pub body_asks : (lo hi end n : ℕ) (u : Term) → Planned rs lo hi end plan n u → CanFit rs at g
     body_asks lo hi end n u h = let b = planned_body at g e h in record {
@@ -49,4 +42,4 @@ module _ (rs : List Record) (plan : Plan) (room : ℕ) where
     pub anew_fits : (m : ℕ) → Measures rs g true m → TellsFits rs plan room (leb m room)
     anew_fits m k = record { is = λ lo hi end n u h. ap (λ x. leb x room) (k.is tt lo hi u (planned_anew g e h).given.stands) }
 
-pub ruleset measuring = (tree_there, tree_up, tree_fits, body_asks, body_fits, anew_asks, anew_fits)
+pub ruleset measuring = (body_asks, body_fits, anew_asks, anew_fits)

@@ -36,11 +36,9 @@ pub fn body_with_tree(w: &[u8], at: usize, arg: usize) -> Plan
     requires { HasTree (records_in w.now) at }
     ensures { PlansTree (records_in w.now) at arg result }
 {
-    if terms::bound_at(w, at) == 1 {
-        let kind = terms::kind_at(w, at);
-        if kinds::children(kind) == 0 {
-            return Plan::Tree(arg, 1);
-        }
+    if terms::bound_at(w, at) == 1 && terms::root_kind(w, at).children() == 0 {
+        Plan::Tree(arg, 1)
+    } else {
+        body_with_one(w, at, Argument::Tree(arg))
     }
-    body_with_one(w, at, Argument::Tree(arg))
 }

@@ -5,6 +5,7 @@ ghost use Rattle.contraction.specs.Redexes.{HasRedex, PlansRedex, CanPlanWhole, 
 
 use crate::bodies::body_with_tree;
 use crate::plans::Plan;
+use kinds::Kind;
 use substitution::Argument;
 
 // "The argument replaces the function's variable in its body."
@@ -39,12 +40,10 @@ pub fn whole_rule(w: &[u8], s: usize) -> u16
     requires { CanPlanWhole (records_in w.now) s }
     ensures { TellsRule (records_in w.now) s result }
 {
-    let r = records::get(w, s);
-    let kind = r.kind;
-    match kind {
-        4 => 1,
-        5 => 2,
-        6 => 3,
+    match terms::root_kind(w, s) {
+        Kind::Application => 1,
+        Kind::Fix => 2,
+        Kind::Lift => 3,
         _ => 4,
     }
 }
@@ -54,12 +53,10 @@ pub fn plan_whole(w: &[u8], s: usize) -> Plan
     requires { CanPlanWhole (records_in w.now) s }
     ensures { PlansWhole (records_in w.now) s result }
 {
-    let r = records::get(w, s);
-    let kind = r.kind;
-    match kind {
-        4 => apply(w, s),
-        5 => unroll(w, s),
-        6 => lift(w, s),
+    match terms::root_kind(w, s) {
+        Kind::Application => apply(w, s),
+        Kind::Fix => unroll(w, s),
+        Kind::Lift => lift(w, s),
         _ => Plan::Tree(s + 2, 0),
     }
 }

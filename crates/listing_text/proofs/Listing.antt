@@ -6,7 +6,7 @@ use native.Mathlib.Omega.{arith}
 use mathlib.Core.Path.{◌≡◌, sym, ap, ◌∙◌}
 use mathlib.Core.List.{List, [], ◌∷◌, ◌++◌, append_assoc, append-nil}
 use lib.ListN.{length, get_or, take}
-use lib.Seq.{take-suc, take_all, length-take-le}
+use lib.Seq.{take-suc, length-take-le}
 use mir.Syntax.{w32}
 use mir.Val.{Fits}
 use Rattle.rules.specs.Format.{Record, no_record}
@@ -66,7 +66,4 @@ module _ (rs : List Record) (count : ℕ) (s : List ℕ) (at : ℕ) where
           wrote = rw (lines_more rs i listing_reads, ← e) (wrote_both s at _ s' end p.wrote _ s'' end' w);
         }
 
-    pub listing_ends : count ≤ i → WroteText s at (record_lines 1 rs) s' end
-    listing_ends l = rw (take_all i rs (omega (arith, p.given.counts))) at p.wrote
-
-pub ruleset listing = (listing_starts, listing_reads, listing_number, listing_room, listing_goes_on, listing_ends)
+pub ruleset listing = (listing_starts, listing_reads, listing_number, listing_room, listing_goes_on)

@@ -1,15 +1,13 @@
 -- `match_rule` and `plan_match`: a law for each thing that their bodies ask. `ruling` and `outcomes` for search.
-use Prim.Native.Nat.{ℕ, ◌+◌, ◌-◌, ◌*◌, ◌%◌, ◌≤◌, ◌<◌}
+use Prim.Native.Nat.{ℕ, ◌+◌, ◌-◌, ◌*◌, ◌%◌, ◌≤◌}
 use native.Mathlib.Omega.{arith}
 use mathlib.Core.List.{List}
 use mathlib.Core.Bool.{Bool, true, false}
 use mathlib.Core.Logic.{inr}
 use mathlib.Core.Option.{Option, none, some}
-use mathlib.Core.Path.{◌≡◌, refl, sym, subst, ◌∙◌}
+use mathlib.Core.Path.{◌≡◌, refl, ap, sym, subst, ◌∙◌}
 use lib.ListN.{length}
-use mir.Syntax.{w16}
-use mir.Val.{Fits}
-use Rattle.rules.specs.Kinds.{quote, Match, match, ternary₃, kind_number}
+use Rattle.rules.specs.Kinds.{quote, Match, match, ternary₃, kind_number, kind_of}
 use Rattle.rules.specs.Terms.{Fields, Term, unary, ternary, size}
 use Rattle.rules.specs.Indices.{replaced, gave_way}
 use Rattle.rules.specs.Types.{Table}
@@ -18,11 +16,13 @@ use Rattle.rules.specs.Matching.{matched}
 use Rattle.rules.specs.Contractions.{StepRule, on_success, on_failure, success_number, rule_number, Contraction, succeeds, fails}
 use Rattle.rules.specs.Format.{Record}
 use Rattle.rules.proofs.FreeBounds.{typed_bound}
+use Rattle.rules.proofs.KindTable.{kind_back}
 use Rattle.rules.proofs.RuleKinds.{match_range, success_number_lem}
+use Rattle.kinds.specs.Named.{kind_meant}
+use Rattle.kinds.specs.declared.names.Kind.{Kind}
 use Rattle.terms.specs.Preorder.{HasTree, Skips}
 use Rattle.terms.specs.Children.{kids}
 use Rattle.terms.specs.Measuring.{Low, KindIs}
-use Rattle.terms.proofs.Trees.{at_first}
 use Rattle.terms.proofs.Low.{low_kids}
 use Rattle.contraction.specs.declared.plans.Plan.{Plan}
 use Rattle.contraction.specs.declared.plans.Plan.TheVariants.{Tree}
@@ -76,25 +76,18 @@ module _ (types : Table) (rs : List Record) (p hi : ℕ) where
     success_held ts e = record { code = code_held; matches = e; there = h.success_there; before = omega (arith, h.upto); low = children_low.1 }
 
   -- The rule, by the kind and by whether it matches its code.
-  pub match_there : HasMatch types rs p hi → p < length rs
-  match_there v = omega (arith, at_first rs (p + 1) v.found.code v.found.code_there)
-
   pub code_there : HasMatch types rs p hi → HasCode types rs p
   code_there v = record { lo = v.lo; found = redex_of v.found; there = code_held v.found }
 
-  module _ (k : ℕ) (kind : KindIs rs p k) where
+  module _ (q : Kind) (kind : KindIs rs p q) (k : ℕ) (o : k ≡ kind_number (kind_meant q)) where
+    number_read : {lo end n : ℕ} {u : Term} (h : OpenMatch types rs p lo hi end n u) → k ≡ kind_number (ternary₃ (match h.kind))
+    number_read h = o ∙ ap kind_number (kind.is ∙ ap kind_of h.kind_held ∙ kind_back (ternary₃ (match h.kind)))
+
     number_of : {lo end n : ℕ} {u : Term} (h : OpenMatch types rs p lo hi end n u) → (success_number h.kind + 13 ≡ 2 * k) × (k ≤ 14)
-    number_of h = let r = match_range h.kind in (omega (arith, success_number_lem h.kind, kind.is, h.kind_held), omega (arith, kind.is, h.kind_held))
+    number_of h = let r = match_range h.kind in (omega (arith, success_number_lem h.kind, number_read h), omega (arith, number_read h))
 
-    module _ (v : HasMatch types rs p hi) where
-      pub rule_doubled : Fits w16 (2 * k)
-      rule_doubled = omega (arith, number_of v.found)
-
-      pub rule_from : 13 ≤ 2 * k
-      rule_from = omega (arith, number_of v.found)
-
-      pub failure_fits : Fits w16 (2 * k - 13 + 1)
-      failure_fits = omega (arith, number_of v.found)
+    pub rule_from : HasMatch types rs p hi → 13 ≤ 2 * k
+    rule_from v = omega (arith, number_of v.found)
 
     module _ (b : Bool) (tells : TellsMatch types rs p b) where
       told : {lo end n : ℕ} {u : Term} (h : OpenMatch types rs p lo hi end n u) → b ≡ is_some (taken types (redex_of h))
@@ -116,7 +109,7 @@ module _ (types : Table) (rs : List Record) (p hi : ℕ) where
           go h (succeeded ts) z = let z : ◌≡◌ {A = ℕ} 0 1 = cc in absurd (omega arith)
           go h failed z = omega (arith, number_of h)
 
-pub ruleset ruling = (match_there, code_there, rule_doubled, rule_from, failure_fits, success_told, failure_told)
+pub ruleset ruling = (code_there, rule_from, success_told, failure_told)
 
 -- "5 to 16 .., success before failure": success has the odd numbers.
 odd_number : (k : Match) → (m : ℕ) × (success_number k ≡ 2 * m + 1)

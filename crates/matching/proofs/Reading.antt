@@ -6,20 +6,24 @@ use mathlib.Core.Path.{◌≡◌, ap, sym, subst, ◌∙◌}
 use lib.ListN.{length, get_or}
 use mir.Syntax.{w64}
 use mir.Val.{Fits}
-use Rattle.rules.specs.Kinds.{quote, match, ternary₃, kind_number, kind_of, numbered}
+use Rattle.rules.specs.Kinds.{quote, match, ternary₃, kind_of}
 use Rattle.rules.specs.Types.{Table}
 use Rattle.rules.specs.Conditions.{Holds}
 use Rattle.rules.specs.FieldUses.{formed}
 use Rattle.rules.specs.Format.{Record, no_record}
 use Rattle.rules.proofs.KindTable.{kind_back}
+use Rattle.kinds.specs.Named.{kind_meant, IsKind}
+use Rattle.kinds.specs.declared.names.Kind.{Kind}
+use Rattle.kinds.specs.declared.names.Kind.TheVariants.{MatchApplication, MatchFunction}
 use Rattle.records.specs.declared.Record.{Record as Read}
 use Rattle.records.specs.Meant.{record_meant}
 use Rattle.records.specs.Places.{Within}
 use Rattle.records.specs.View.{records_in}
 use Rattle.records.proofs.Records.{records_length}
+use Rattle.terms.proofs.Readings.{tree_kind}
 use Rattle.terms.proofs.Trees.{at_first}
 use Rattle.matching.specs.Matches.{MatchRedex, CodeAt}
-use Rattle.contraction.proofs.Places.{Before, only_child}
+use Rattle.contraction.proofs.Places.{Before, before_has, only_child}
 
 -- Its place, that of its code, and the next: they are in the slice, or fit.
 module _ (types : Table) (p lo : ℕ) (m : MatchRedex) where
@@ -30,8 +34,8 @@ module _ (types : Table) (p lo : ℕ) (m : MatchRedex) where
     pub code_in : p + 2 < length rs
     code_in = at_first rs (p + 2) m.code code_before.there
 
-    pub match_in : p < length rs
-    match_in = omega (arith, code_in)
+    pub code_known : (y : Read) → record_meant y ≡ get_or rs (p + 2) no_record → IsKind y.kind
+    code_known y ey = rw (ap (λ r. r.kind) ey) (tree_kind rs (p + 2) (before_has code_before)).known
 
   module _ (s : List ℕ) (h : CodeAt types (records_in s) p lo m) (l : length s < 2 ^ 64) where
     pub code_fits : Fits w64 (p + 2)
@@ -45,23 +49,17 @@ module _ (types : Table) (rs : List Record) (p lo : ℕ) (m : MatchRedex) (h : C
   pub fields_read : (record_meant x).fields ≡ m.fields
   fields_read = ap (λ y. y.fields) ex ∙ h.fields_held
 
-  pub kind_read : x.kind ≡ kind_number (ternary₃ (match m.kind))
-  kind_read = ap (λ y. y.kind) ex ∙ h.kind_held
-
   pub kind_known : kind_of x.kind ≡ ternary₃ (match m.kind)
-  kind_known = ap kind_of kind_read ∙ kind_back (ternary₃ (match m.kind))
+  kind_known = ap (λ y. kind_of y.kind) ex ∙ ap kind_of h.kind_held ∙ kind_back (ternary₃ (match m.kind))
 
-  good_by : (n : ℕ) → x.kind ≡ n → Holds (formed types (kind_of n) (record_meant x).fields)
-  good_by n q =
-      let k = sym kind_known ∙ ap kind_of q in
-      subst (λ f. Holds (formed types (kind_of n) f)) (sym fields_read) (subst (λ k. Holds (formed types k m.fields)) k h.good)
+  module _ (k : Kind) (e : kind_meant k ≡ kind_of x.kind) where
+    good_fields : Holds (formed types (kind_meant k) (record_meant x).fields)
+    good_fields = subst (λ f. Holds (formed types (kind_meant k) f)) (sym fields_read) (subst (λ k. Holds (formed types k m.fields)) (sym (e ∙ kind_known)) h.good)
 
-  pub second_bound : x.kind ≡ 11 → Within types x.b
-  unfolding kind_of numbered
-  second_bound q = let g = good_by 11 q in record { some = g.1.1.0.0; most = g.1.1.0.1 }
+    pub second_bound : k ≡ MatchApplication → Within types x.b
+    second_bound q = let g = subst (λ k. Holds (formed types (kind_meant k) (record_meant x).fields)) q good_fields in record { some = g.1.1.0.0; most = g.1.1.0.1 }
 
-  pub first_bound : x.kind ≡ 13 → Within types x.a
-  unfolding kind_of numbered
-  first_bound q = let g = good_by 13 q in record { some = g.1.0.0; most = g.1.0.1 }
+    pub first_bound : k ≡ MatchFunction → Within types x.a
+    first_bound q = let g = subst (λ k. Holds (formed types (kind_meant k) (record_meant x).fields)) q good_fields in record { some = g.1.0.0; most = g.1.0.1 }
 
-pub ruleset reading = (code_in, match_in, code_fits, below_code_fits, second_bound, first_bound)
+pub ruleset reading = (code_in, code_fits, below_code_fits, first_bound)

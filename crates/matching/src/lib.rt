@@ -6,9 +6,10 @@ ghost use Rattle.records.specs.Places.{Within};
 ghost use Rattle.matching.specs.Matches.{IsOpened, HasApplication, SecondType, HasCode, TellsMatch, CanSucceed, PlansSuccess, HasMatch, TellsMatchRule, CanPlanMatch, PlansMatch};
 
 use contraction::{Plan, body_with, body_with_one, body_with_tree};
+use kinds::Kind;
 use substitution::{Argument, Arguments};
 
-// The function of type `ty` that a match of kind 13 binds, of the body at `at`.
+// The function of type `ty` that a match on a function binds, of the body at `at`.
 fn opened_at(table: &[u8], at: usize, ty: u16) -> Argument
     requires { Within (entries_in table.now) ty }
     ensures { IsOpened (entries_in table.now) at ty result }
@@ -34,14 +35,14 @@ fn matches(table: &[u8], w: &[u8], p: usize) -> bool
 {
     let r = records::get(w, p);
     let code = records::get(w, p + 2);
-    let kind = r.kind;
-    if code.kind != kinds::sought_kind(kind) {
+    let kind = Kind::known(r.kind);
+    if kind.sought() != Some(Kind::known(code.kind)) {
         return false;
     }
     match kind {
-        9 => records::number_held(code) == records::number_held(r),
-        10 => code.a == r.a,
-        11 => {
+        Kind::MatchNumber => records::number_held(code) == records::number_held(r),
+        Kind::MatchVariable => code.a == r.a,
+        Kind::MatchApplication => {
             let b = records::entry_no(table, r.b);
             second_type(w, p + 2) == b.a
         }
@@ -49,15 +50,14 @@ fn matches(table: &[u8], w: &[u8], p: usize) -> bool
     }
 }
 
-// The plan of a match that succeeds: its success, at `s`, with its variables replaced. Kinds 9 and 10 bind nothing.
+// The plan of a match that succeeds: its success, at `s`, with its variables replaced. A match on a number or a variable binds nothing.
 fn success(table: &[u8], w: &[u8], p: usize, s: usize) -> Plan
     requires { CanSucceed (entries_in table.now) (records_in w.now) p s }
     ensures { PlansSuccess (entries_in table.now) (records_in w.now) p s result }
 {
     let r = records::get(w, p);
-    let kind = r.kind;
-    match kind {
-        11 => {
+    match Kind::known(r.kind) {
+        Kind::MatchApplication => {
             let argument = terms::skip(w, p + 3);
             let b = Argument::Quote(argument, r.b);
             let a = Argument::Quote(p + 3, r.a);
@@ -68,9 +68,9 @@ fn success(table: &[u8], w: &[u8], p: usize, s: usize) -> Plan
             };
             body_with(w, s, both)
         }
-        12 => body_with_tree(w, s, p + 2),
-        13 => body_with_one(w, s, opened_at(table, p + 3, r.a)),
-        14 => body_with_one(w, s, Argument::Quote(p + 3, r.a)),
+        Kind::MatchLift => body_with_tree(w, s, p + 2),
+        Kind::MatchFunction => body_with_one(w, s, opened_at(table, p + 3, r.a)),
+        Kind::MatchFix => body_with_one(w, s, Argument::Quote(p + 3, r.a)),
         _ => Plan::Tree(s, 0),
     }
 }
@@ -80,7 +80,7 @@ pub fn match_rule(table: &[u8], w: &[u8], p: usize, s: usize) -> u16
     requires { HasMatch (entries_in table.now) (records_in w.now) p s }
     ensures { TellsMatchRule (entries_in table.now) (records_in w.now) p s result }
 {
-    let rule = 2 * terms::kind_at(w, p) - 13;
+    let rule = 2 * terms::root_kind(w, p).number() - 13;
     if matches(table, w, p) { rule } else { rule + 1 }
 }
 

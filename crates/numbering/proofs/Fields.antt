@@ -11,17 +11,17 @@ use denote.Enum.Bare.{sameb}
 use mir.Syntax.{w16}
 use mir.Val.{Fits}
 use Rattle.std.proofs.lemmas.Bool.{false≢true}
-use Rattle.rules.specs.Types.{Table, part_a, part_b}
+use Rattle.rules.specs.Types.{Table}
 use Rattle.order.specs.Order.{needed}
 use Rattle.kinds.specs.Named.{use_meant}
 use Rattle.kinds.specs.contracts.uses.Use.{the_type}
 use Rattle.kinds.specs.declared.uses.Use.{Use}
 use Rattle.kinds.specs.declared.uses.Use.TheVariants.{Unused, Index, Entry as AnEntry, Value}
-use Rattle.records.specs.Places.{Within, IsEntry}
+use Rattle.records.specs.Places.{IsEntry}
 use Rattle.records.specs.declared.Entry.{Entry}
 use Rattle.order.proofs.InFull.{need_none}
 use Rattle.numbering.specs.Numbering.{Numbering, SomeNumbered, CanNeed, Needs, type_named}
-use Rattle.numbering.proofs.Needing.{lower, needed_old, seen_few, numbering_more}
+use Rattle.numbering.proofs.Needing.{needed_old, seen_few, numbering_more}
 
 -- What is kept from need to need.
 module _ {types : Table} {x : ℕ} {new : List ℕ} {count : ℕ} {new' : List ℕ} {count' : ℕ} (n : Needs types x new count new' count') (s : SomeNumbered types new count) where
@@ -39,39 +39,14 @@ module _ {types : Table} {x count : ℕ} {new : List ℕ} where
     pub old_needs : get_or new x 0 ≢ 0 → Needs types x new count new count
     old_needs h = record { is = λ seen n. subst (Numbering types new count) (sym (needed_old types c.numbered.good x seen (omega (arith, h, n.each x c.low)))) n }
 
-    pub within : x ≢ 0 → Within types x
-    within h = record { some = omega (arith, h); most = c.low }
+    pub all_needs : (e : Entry) → IsEntry types x e → {new₁ : List ℕ} {count₁ : ℕ} {new₂ : List ℕ} {count₂ : ℕ} → x ≢ 0 → get_or new x 0 ≡ 0 → Needs types e.a new count new₁ count₁
+        → Needs types e.b new₁ count₁ new₂ count₂ → Needs types x new count (set new₂ x (count₂ + 1)) (count₂ + 1)
+    all_needs e i {new₁} {count₁} {new₂} {count₂} h z n k = record {
+      is = λ seen s. numbering_more types c.numbered.good x seen new₂ count₂ (omega (arith, h), c.low) (sym (s.each x c.low) ∙ z) s.seen_is
+          (subst (λ y. Numbering types new₂ count₂ (needed types y.b (needed types y.a seen))) i.is (k.is (needed types e.a seen) (n.is seen s)));
+    }
 
-    pub in_room : {new₁ : List ℕ} {count₁ : ℕ} → SomeNumbered types new₁ count₁ → x < length new₁
-    in_room s = omega (arith, c.low, s.numbering.room)
-
-    module _ (e : Entry) (i : IsEntry types x e) where
-      -- Its parts are earlier entries, and can be needed whatever was needed before.
-      module _ (h : x ≢ 0) where
-        lower_parts : (part_a types x < x) × (part_b types x < x)
-        lower_parts = lower types c.numbered.good x (omega (arith, h), c.low)
-
-        pub left_falls : (a : ℕ) → a ≡ e.a → {t : ℕ} → x ≡ t → a < t
-        left_falls a k m = omega (arith, k, m, ap (λ r. r.a) i.is, lower_parts.0)
-
-        pub right_falls : (b : ℕ) → b ≡ e.b → {t : ℕ} → x ≡ t → b < t
-        right_falls b k m = omega (arith, k, m, ap (λ r. r.b) i.is, lower_parts.1)
-
-        module _ {new₁ : List ℕ} {count₁ : ℕ} (s : SomeNumbered types new₁ count₁) where
-          pub left_part : (a : ℕ) → a ≡ e.a → CanNeed types a new₁ count₁
-          left_part a k = record { low = omega (arith, left_falls a k refl, c.low); numbered = s }
-
-          pub right_part : (b : ℕ) → b ≡ e.b → CanNeed types b new₁ count₁
-          right_part b k = record { low = omega (arith, right_falls b k refl, c.low); numbered = s }
-
-      pub all_needs : {new₁ : List ℕ} {count₁ : ℕ} {new₂ : List ℕ} {count₂ : ℕ} → x ≢ 0 → get_or new x 0 ≡ 0 → Needs types e.a new count new₁ count₁
-          → Needs types e.b new₁ count₁ new₂ count₂ → Needs types x new count (set new₂ x (count₂ + 1)) (count₂ + 1)
-      all_needs {new₁} {count₁} {new₂} {count₂} h z n k = record {
-        is = λ seen s. numbering_more types c.numbered.good x seen new₂ count₂ (omega (arith, h), c.low) (sym (s.each x c.low) ∙ z) s.seen_is
-            (subst (λ y. Numbering types new₂ count₂ (needed types y.b (needed types y.a seen))) i.is (k.is (needed types e.a seen) (n.is seen s)));
-      }
-
-pub ruleset needing = (needs_on, next_fits, none_needs, old_needs, within, in_room, left_falls, right_falls, left_part, right_part, all_needs)
+pub ruleset needing = (needs_on, next_fits, none_needs, old_needs, all_needs)
 
 -- The test whether a field names a type.
 pub names_some : (u : Use) (b : Bool) → b ≡ not (sameb the_type u AnEntry) → b ≡ false → u ≡ AnEntry
@@ -100,7 +75,7 @@ module _ {types : Table} (u : Use) (x : ℕ) {count : ℕ} {new : List ℕ} wher
   field_can e = subst (λ v. CanNeed types (type_named (use_meant v) x) new count) e
 
   pub field_room : u ≡ AnEntry → CanNeed types (type_named (use_meant u) x) new count → x < length new
-  field_room e c = in_room (field_can e c) c.numbered
+  field_room e c = omega (arith, (field_can e c).low, c.numbered.numbering.room)
 
   pub field_needs : {new' : List ℕ} {count' : ℕ} → u ≡ AnEntry → Needs types x new count new' count' → Needs types (type_named (use_meant u) x) new count new' count'
   unfolding type_named

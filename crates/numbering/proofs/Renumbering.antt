@@ -33,9 +33,6 @@ module _ {types : Table} {rs : List Record} {n : ℕ} {new₀ : List ℕ} where
     pub place : k < n → k < length rs'
     place l = omega (arith, w.can.within, ap length w.so_far.records, front_length (new_number (front_uses types k rs)) k rs)
 
-    pub ends : n ≤ k → Renumbers types rs n rs' new count
-    ends l = let e : k ≡ n = omega (arith, w.low) in subst (λ j. Renumbers types rs j rs' new count) e w.so_far
-
     -- The next record, which is as it was.
     module _ (r : Record) (e : r ≡ get_or rs' k no_record) (l : k < n) where
       within : k < length rs
@@ -86,4 +83,4 @@ pub goes_on : {types : Table} {rs : List Record} {n : ℕ} {new₀ : List ℕ} {
     → (q : Record) → RenumbersRecord r new₁ q → (s' : List ℕ) → RecordPut s k q s' → Renumbering types rs n new₀ (k + 1) (records_in s') new₁ count₁
 goes_on s w l r e m q p s' put = next_done w r e l m q p put.things
 
-pub ruleset turning = (starts, place, ends, next_needs, next_room, goes_on)
+pub ruleset turning = (starts, place, next_needs, next_room, goes_on)

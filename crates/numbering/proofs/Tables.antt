@@ -1,6 +1,6 @@
 -- `order_entry` and `order_table`: the laws of the loop that puts the entry of each type that has a number at its place, and the table that is there when
 -- it is over: that of the types in order of use, whatever the order of writing. `placing_entry` and `ordering` for search. Assumes nothing.
-use Prim.Native.Nat.{ℕ, zero, suc, ◌+◌, ◌-◌, ◌^◌, ◌≤◌, ◌<◌}
+use Prim.Native.Nat.{ℕ, zero, suc, ◌+◌, ◌-◌, ◌≤◌, ◌<◌}
 use native.Mathlib.Omega.{arith}
 use native.Mathlib.Numerals.{add-one}
 use native.Mathlib.Decide.{dec_lt, ℕ_discrete}
@@ -10,8 +10,6 @@ use mathlib.Core.Path.{◌≡◌, refl, ap, ap₂, sym, ◌∙◌, subst}
 use lib.Dec.{eqb, eqb→eq}
 use lib.ListN.{length, get_or, set, take, length-map, length-set}
 use lib.Seq.{ext_get_or, get_or-take, length-take-le, get_or-set_same, get_or-set_other}
-use mir.Syntax.{w64}
-use mir.Val.{Fits}
 use Rattle.rules.specs.Lists.{All}
 use Rattle.rules.specs.Types.{Table, no_entry, entry}
 use Rattle.order.specs.FullTypes.{NamesType, GoodEntries, in_full}
@@ -19,9 +17,8 @@ use Rattle.order.specs.Numbers.{equality}
 use Rattle.order.specs.Order.{new_number, renumbered_entry, table_by}
 use Rattle.rules.proofs.General.{is_false}
 use Rattle.records.specs.declared.Entry.{Entry}
-use Rattle.records.specs.Places.{Within, IsEntry}
+use Rattle.records.specs.Places.{IsEntry}
 use Rattle.records.specs.View.{entries_in, EntryPut}
-use Rattle.records.proofs.Entries.{entries_length}
 use Rattle.order.proofs.Full.{form}
 use Rattle.order.proofs.InFull.{same_number, renumbered_full, table_full_lem}
 use Rattle.order.proofs.Numbers.{number_here, number_injective, kept_new}
@@ -51,32 +48,12 @@ module _ (types : Table) (new : List ℕ) (x : ℕ) (es : Table) where
   pub nothing_put : get_or new x 0 ≡ 0 → OrdersEntry types x new es es
   nothing_put e = record { is = sym (with_none e) }
 
-  module _ (c : CanOrderEntry types x new es) where
-    pub entry_within : Within types x
-    entry_within = record { some = c.is.0; most = c.is.1 }
-
-    pub type_room : x < length new
-    type_room = omega (arith, c.is.1, c.room)
-
-    pub entry_room : get_or new x 0 ≢ 0 → get_or new x 0 - 1 < length es
-    entry_room n = omega (arith, c.fits x c.is.1)
-
-    module _ (e : Entry) (i : IsEntry types x e) where
-      pub first_room : e.a < length new
-      first_room = omega (arith, ap (λ y. y.a) i.is, (lower types c.good x c.is).0, c.is.1, c.room)
-
-      pub second_room : e.b < length new
-      second_room = omega (arith, ap (λ y. y.b) i.is, (lower types c.good x c.is).1, c.is.1, c.room)
-
-pub entry_cast : {types : Table} {new : List ℕ} {x : ℕ} (s : List ℕ) → CanOrderEntry types x new (entries_in s) → length s < 2 ^ 64 → Fits w64 (get_or new x 0 - 1)
-entry_cast {types} {new} {x} s c h = omega (arith, c.fits x c.is.1, entries_length s)
-
 pub entry_put : {types : Table} {new : List ℕ} {x : ℕ} (s s' : List ℕ) → get_or new x 0 ≢ 0 → (e : Entry) → IsEntry types x e
     → EntryPut s (get_or new x 0 - 1) (record { kind = e.kind; a = get_or new e.a 0; b = get_or new e.b 0 }) s' → OrdersEntry types x new (entries_in s) (entries_in s')
 entry_put {types} {new} {x} s s' n e i p =
     record { is = p.things ∙ (ap (λ y. set (entries_in s) (get_or new x 0 - 1) (entry_by new y)) i.is ∙ sym (with_some types new x (entries_in s) n)) }
 
-pub ruleset placing_entry = (nothing_put, entry_within, type_room, entry_room, first_room, second_room, entry_cast, entry_put)
+pub ruleset placing_entry = (nothing_put, entry_put)
 
 -- The loop: the entries of types 1 to x are put.
 pub record Ordering (types : Table) (count : ℕ) (new : List ℕ) (es : Table) (x : ℕ) (es' : Table) : Type 0 where
@@ -111,10 +88,7 @@ module _ {types : Table} {count : ℕ} {new : List ℕ} {es : Table} where
       so_far = subst (λ n. OrdersTable types n new es es'') (sym (add-one x)) (record { is = p.is ∙ ap₂ (λ n ys. with_entry types new n ys) (add-one x) o.so_far.is });
     }
 
-    pub ordering_ends : count ≤ x → OrdersTable types count new es es'
-    ordering_ends l = let e : x ≡ count = omega (arith, o.low) in subst (λ n. OrdersTable types n new es es') e o.so_far
-
-pub ruleset ordering = (ordering_starts, next_entry, entry_done, ordering_ends)
+pub ruleset ordering = (ordering_starts, next_entry, entry_done)
 
 -- The type that has number n.
 record Whom (types : Table) (seen : List ℕ) (n : ℕ) : Type 0 where

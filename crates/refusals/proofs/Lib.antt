@@ -1,4 +1,3 @@
 -- The laws of checks that follow one another, and of the scan for the lowest fault.
 pub mod Laws
-pub mod Scanning
 pub mod Reporting

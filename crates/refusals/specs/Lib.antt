@@ -1,3 +1,2 @@
--- What a refusal by value says.
-pub mod Tells
+-- What a check reports of what the rules refuse.
 pub mod Reports

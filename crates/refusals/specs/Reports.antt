@@ -27,6 +27,9 @@ reason_number TableFull = table_full
 abbrev pub refusal_meant : Refusal → MeantRefusal
 refusal_meant r = record { number = reason_number r.reason; place = r.place }
 
+abbrev pub refusal_by : ℕ → ℕ → MeantRefusal
+refusal_by number place = record { number = number; place = place }
+
 -- A check that comes out well refuses nothing, and else its error is the refusal.
 abbrev pub reported : {X : Type 0} → Result X Refusal → Option MeantRefusal
 reported (Ok x) = none

@@ -11,6 +11,3 @@ put_record-requires c = search (listing, rules)
 
 pub loop-i-preserved : goal.loop-i-preserved
 loop-i-preserved c = search (listing, rules)
-
-pub returns : goal.returns
-returns c = search (listing, rules)
