@@ -13,7 +13,8 @@ use records::{Entry, Record};
 use refusals::{Reason, Refusal};
 use tables::Held;
 
-// The type that a record must have, if it can have one: a number that is known, or the number of an entry that is made.
+// The type that a record must have, if it can have one: a number that is known, or the number of an entry that is made. An enum of its own, since
+// neither is an error.
 #[derive(Clone, Copy)]
 pub enum Candidate {
     Known(u16),
@@ -57,7 +58,8 @@ fn hold(table: &mut [u8], types: u16, w: Candidate) -> Held
 }
 
 // The number of the fault of r, of this kind, by rules 10 to 12, at this level under the binders below the depth, where its children have the types x,
-// y and z, or 0. As in check's walk the kinds of which there are many are named, so that each has code of its own.
+// y and z, or 0. As in check's walk the kinds of which there are many are named, so that each has code of its own; there the children are read by the
+// kind as well, so that no one list serves both.
 fn own_number(
     table: &[u8],
     binders: &[u32],

@@ -30,7 +30,8 @@ fn is_earlier(x: u16, n: u16) -> bool
     (1 <= x) & (x < n)
 }
 
-// Whether entry n, e, is of a kind that there is, and its parts are earlier entries.
+// Whether entry n, e, is of a kind that there is, and its parts are earlier entries. The kinds of entries are told apart here alone, by their numbers as they
+// stand in the bytes; `Entry::nat`, `function` and `code` name them elsewhere.
 fn kind_ok(e: Entry, n: u16) -> bool
     requires { 1 ≤ n }
     ensures { result ≡ holds (kind_rule n (entry_meant e)) }
