@@ -115,36 +115,33 @@ impl State {
     }
 
     // Makes what the focus becomes and puts it into the hole. There is room for it; the slots from `aim.free` to the right side are free.
-    fn proceed(self, work: &mut [u8], aim: Aim) -> Step
-        requires { CanProceed (records_in work.old) self aim }
-        ensures { Proceeds (records_in work.old) (records_in work.new) self aim result }
+    fn proceed(&mut self, work: &mut [u8], aim: Aim) -> Event
+        requires { CanProceed (records_in work.old) self.old aim }
+        ensures { Proceeds (records_in work.old) (records_in work.new) self.old aim (record { state = self.new; event = result }) }
     {
         let plan = aim.plan;
         let hole = aim.hole;
         let made = contraction::make(work, plan, aim.free);
         let next = zipper::put_ahead(work, hole, made.at, made.size);
-        Step {
-            state: State {
-                turn: Turn::Next(next),
-                steps: self.steps + 1,
-            },
-            event: Event {
-                rule: aim.rule,
-                place: (hole.l + 1) as u16,
-                replaced: made.replaced as u32,
-            },
+        self.turn = Turn::Next(next);
+        self.steps += 1;
+        Event {
+            rule: aim.rule,
+            place: (hole.l + 1) as u16,
+            replaced: made.replaced as u32,
         }
     }
 
     // One step of a term that isn't a value: the state at the next term, or none where that has more than 2,048 records, and the term stays as it is.
-    pub fn step(self, table: &[u8], work: &mut [u8]) -> Option<Step>
+    pub fn step(mut self, table: &[u8], work: &mut [u8]) -> Option<Step>
         requires { CanStep (entries_in table.now) (records_in work.old) self }
         ensures { Stepped (entries_in table.now) (records_in work.old) (records_in work.new) self result }
     {
         let aim = self.aim(table, work);
         let plan = aim.plan;
         if contraction::fits(work, plan, aim.hole.r - aim.hole.l - MOST) {
-            return Some(self.proceed(work, aim));
+            let event = self.proceed(work, aim);
+            return Some(Step { state: self, event });
         }
         None
     }
