@@ -13,7 +13,8 @@ use records::{Entry, Record};
 use refusals::{Reason, Refusal};
 use tables::Held;
 
-// The type that a record must have, if it can have one: a number that is known, or the number of an entry that is made.
+// The type that a record must have, if it can have one: a number that is known, or the number of an entry that is made. An enum of its own, since
+// neither is an error.
 #[derive(Clone, Copy)]
 pub enum Candidate {
     Known(u16),
@@ -26,20 +27,12 @@ fn wanted(table: &[u8], binders: &[u32], depth: usize, r: Record, x: u16, y: u16
     ensures { Wants (entries_in table.now) (stack binders.now depth) r x y result }
 {
     match Kind::of(r.kind) {
-        Kind::Number => Candidate::Made(Entry {
-            kind: 1,
-            a: 0,
-            b: 0,
-        }),
+        Kind::Number => Candidate::Made(Entry::nat()),
         Kind::Variable => {
             let b = judging::binder_at(binders, depth, r.a);
             Candidate::Known(b.ty)
         }
-        Kind::Function => Candidate::Made(Entry {
-            kind: 2,
-            a: r.a,
-            b: x,
-        }),
+        Kind::Function => Candidate::Made(Entry::function(r.a, x)),
         Kind::Application => {
             let e = judging::entry_if_any(table, x);
             Candidate::Known(e.b)
@@ -48,11 +41,7 @@ fn wanted(table: &[u8], binders: &[u32], depth: usize, r: Record, x: u16, y: u16
             let e = judging::entry_if_any(table, x);
             Candidate::Known(e.a)
         }
-        Kind::Lift | Kind::Quote => Candidate::Made(Entry {
-            kind: 3,
-            a: x,
-            b: 0,
-        }),
+        Kind::Lift | Kind::Quote => Candidate::Made(Entry::code(x)),
         _ => Candidate::Known(y),
     }
 }
@@ -69,7 +58,8 @@ fn hold(table: &mut [u8], types: u16, w: Candidate) -> Held
 }
 
 // The number of the fault of r, of this kind, by rules 10 to 12, at this level under the binders below the depth, where its children have the types x,
-// y and z, or 0. As in check's walk the kinds of which there are many are named, so that each has code of its own.
+// y and z, or 0. As in check's walk the kinds of which there are many are named, so that each has code of its own; there the children are read by the
+// kind as well, so that no one list serves both.
 fn own_number(
     table: &[u8],
     binders: &[u32],

@@ -34,28 +34,29 @@ pub fn check(program: &[u8]) -> CheckAnswer
 }
 
 // The root's type of a program that is passed.
+#[tactic(auto, using(crate::proofs::Checks::checking))]
 pub fn root_type(program: &[u8]) -> u16
     requires { Meets first_edition program.now }
     ensures { result ≡ type_no (records_of program.now) 1 }
 {
-    let types = records::get16(program, 0);
-    let end = 4 + 6 * (types as usize);
-    let root = records::get(&program[end..], 0);
+    let parts = parts::parts_of(program);
+    let root = records::get(parts.records, 0);
     root.ty
 }
 
 // The answer for a program that is passed.
+#[tactic(auto, using(crate::proofs::Checks::checking))]
 fn passed(program: &[u8]) -> CheckAnswer
     requires { Meets first_edition program.now }
     ensures { check_meant result ≡ check_answer first_edition program.now }
 {
     let root = root_type(program);
-    let count = records::get16(program, 2);
+    let parts = parts::parts_of(program);
     CheckAnswer {
         number: 0,
         place: 0,
         root_type: root as u32,
-        records: count as u32,
+        records: parts.count as u32,
     }
 }
 

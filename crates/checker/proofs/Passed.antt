@@ -1,14 +1,14 @@
 -- What is known of a program whose layout is not refused; and the walk that comes after.
-use Prim.Native.Nat.{ℕ, ◌+◌, ◌*◌, ◌-◌}
+use Prim.Native.Nat.{ℕ}
 use native.Mathlib.Omega.{arith}
 use mathlib.Core.Bool.{Bool, true, false}
 use mathlib.Core.List.{List, []}
 use mathlib.Core.Option.{Option, none, some}
 use mathlib.Core.Path.{◌≡◌, sym, ◌∙◌}
-use lib.ListN.{length, take, drop}
+use lib.ListN.{length}
 use Rattle.rules.specs.Editions.{Edition}
 use Rattle.rules.specs.FieldUses.{TypeFields, given, omitted}
-use Rattle.rules.specs.Format.{type_count, record_count, records_of}
+use Rattle.rules.specs.Format.{records_of}
 use Rattle.rules.specs.Refusals.{Refusal, bad_link, bad_children}
 use Rattle.rules.specs.Check.{links_rule, children_rule, walked, form_refusal, layout_refusal, refusal}
 use Rattle.rules.specs.Meets.{MeetsLayout}
@@ -16,7 +16,8 @@ use Rattle.rules.proofs.Tests.{lowest_holds}
 use Rattle.rules.proofs.Meaning.{records_counted, layout_exactly}
 use Rattle.kinds.specs.Meant.{type_fields_meant}
 use Rattle.records.specs.View.{entries_in, records_in}
-use Rattle.records.proofs.Program.{layout_table_slice, layout_records_slice}
+use Rattle.parts.specs.declared.Parts.{Parts}
+use Rattle.parts.specs.Layout.{ArePartsOf}
 use Rattle.refusals.proofs.Reporting.{reports_first, reports_next}
 use Rattle.typing.specs.Walking.{MakeTree}
 use Rattle.checker.specs.Refused.{SizePasses, refusal_with}
@@ -27,23 +28,22 @@ module _ (fields : TypeFields) (edition : Edition) (p : List ℕ) (tl : none ≡
   layout_passed = (layout_exactly fields edition p).0 (sym tl)
 
   -- Its records make one tree.
-  passed_tree : (T R : ℕ) → T ≡ type_count p → R ≡ record_count p → MakeTree (records_in (take (length p - (4 + 6 * T)) (drop (4 + 6 * T) p))) R
-  passed_tree T R eT eR =
+  passed_tree : (parts : Parts) → ArePartsOf p parts → MakeTree (records_in parts.records.now) parts.count
+  passed_tree parts a =
       let m = layout_passed in
       let rs = records_of p in
-      rw (← layout_records_slice fields edition p m T eT) (record {
+      rw a.records_are (record {
         linked = lowest_holds (links_rule rs) bad_link 1 (length rs) m.form.linked;
         chained = lowest_holds (children_rule rs) bad_children 1 (length rs) m.form.chained;
-        all = records_counted p ∙ sym eR;
-        real = omega (arith, eR, m.counts.1.0);
-        most = omega (arith, eR, m.counts.1.0);
+        all = records_counted p ∙ sym a.count;
+        real = omega (arith, a.count, m.counts.1.0);
+        most = omega (arith, a.count, m.counts.1.0);
       })
 
 -- So it is where the refusals of its two parts say nothing.
-pub form_tree : (p : List ℕ) → SizePasses p → (T R : ℕ) → T ≡ type_count p → R ≡ record_count p → (fields : TypeFields) (edition : Edition)
-    → none ≡ form_refusal fields edition (entries_in (take (4 + 6 * T - 4) (drop 4 p))) (records_in (take (length p - (4 + 6 * T)) (drop (4 + 6 * T) p)))
-    → MakeTree (records_in (take (length p - (4 + 6 * T)) (drop (4 + 6 * T) p))) R
-form_tree p passes T R eT eR fields edition tf = passed_tree fields edition p (form_told p passes T eT fields edition none tf) T R eT eR
+pub form_tree : (p : List ℕ) → SizePasses p → (parts : Parts) → ArePartsOf p parts → (fields : TypeFields) (edition : Edition)
+    → none ≡ form_refusal fields edition (entries_in parts.table.now) (records_in parts.records.now) → MakeTree (records_in parts.records.now) parts.count
+form_tree p passes parts a fields edition tf = passed_tree fields edition p (form_told p passes parts a fields edition none tf) parts a
 
 -- 3 to 9 and 13, then, where types are given, the walk.
 module _ (b : Bool) (edition : Edition) (p : List ℕ) where
@@ -60,13 +60,10 @@ module _ (b : Bool) (edition : Edition) (p : List ℕ) where
     unfolding refusal_with type_fields_meant
     layout_told e = rw e (rw e at tl)
 
-    pub walk_told : b ≡ true → (T R : ℕ) → T ≡ type_count p → R ≡ record_count p → (q : Option Refusal)
-        → q ≡ walked R (entries_in (take (4 + 6 * T - 4) (drop 4 p))) (records_in (take (length p - (4 + 6 * T)) (drop (4 + 6 * T) p))) [] 0 1
-        → q ≡ refusal_with (type_fields_meant b) edition p
+    pub walk_told : b ≡ true → (parts : Parts) → ArePartsOf p parts → (q : Option Refusal)
+        → q ≡ walked parts.count (entries_in parts.table.now) (records_in parts.records.now) [] 0 1 → q ≡ refusal_with (type_fields_meant b) edition p
     unfolding refusal_with refusal type_fields_meant
-    walk_told e T R eT eR q tw =
-        let m = layout_passed (type_fields_meant b) edition p tl in
-        rw e (reports_next q _ _ (rw e at tl) (rw (records_counted p ∙ sym eR, layout_table_slice _ edition p m T eT, layout_records_slice _ edition p m T eT) tw))
+    walk_told e parts a q tw = rw e (reports_next q _ _ (rw e at tl) (rw (records_counted p ∙ sym a.count, ← a.entries_are, ← a.records_are) tw))
 
 -- The refusal of a program whose types are given, and of one whose types are omitted.
 module _ (edition : Edition) (p : List ℕ) (q : Option Refusal) where

@@ -14,6 +14,7 @@ ghost use Rattle.checker.specs.Limits.{InLimits};
 ghost use Rattle.checker.specs.Refused.{SizePasses, refusal_with};
 
 use kinds::{Edition, MOST_RECORDS, MOST_TYPES};
+use parts::Parts;
 use refusals::{Reason, Refusal};
 
 // Whether both counts are within their limits.
@@ -92,11 +93,12 @@ fn parts_refusal(program: &[u8], edition: Edition, given: bool) -> Result<(), Re
     requires { SizePasses program.now }
     ensures { Reports result (refusal_with (type_fields_meant given) (edition_meant edition) program.now) }
 {
-    let types = records::get16(program, 0);
-    let count = records::get16(program, 2);
-    let end = 4 + 6 * (types as usize);
-    let table = &program[4..end];
-    let records = &program[end..];
+    let Parts {
+        types,
+        count,
+        table,
+        records,
+    } = parts::parts_of(program);
     form_refusal(table, types, records, count, edition, given)?;
     if !given {
         return Ok(());

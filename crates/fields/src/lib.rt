@@ -2,7 +2,7 @@
 #![tactic(auto)]
 
 ghost use Rattle.std.specs.Prelude.{◌≡◌, ◌-◌, ◌*◌, ◌≤◌, ◌<◌, length, eqb};
-ghost use Rattle.rules.specs.Conditions.{between, same_entry, met, holds};
+ghost use Rattle.rules.specs.Conditions.{between, met, holds};
 ghost use Rattle.rules.specs.FieldUses.{omitted};
 ghost use Rattle.rules.specs.Format.{record_no};
 ghost use Rattle.kinds.specs.Meant.{edition_meant, type_fields_meant};
@@ -22,13 +22,6 @@ use kinds::{Edition, Kind, Use};
 use records::{Entry, Record};
 use refusals::{Reason, Refusal, lowest_refusal};
 
-// Whether two entries are the same.
-pub fn same_entry(x: Entry, y: Entry) -> bool
-    ensures { result ≡ same_entry (entry_meant x) (entry_meant y) }
-{
-    x == y
-}
-
 // Whether x is the number of an entry before entry n.
 fn is_earlier(x: u16, n: u16) -> bool
     requires { 1 ≤ n }
@@ -37,7 +30,8 @@ fn is_earlier(x: u16, n: u16) -> bool
     (1 <= x) & (x < n)
 }
 
-// Whether entry n, e, is of a kind that there is, and its parts are earlier entries.
+// Whether entry n, e, is of a kind that there is, and its parts are earlier entries. The kinds of entries are told apart here alone, by their numbers as they
+// stand in the bytes; `Entry::nat`, `function` and `code` name them elsewhere.
 fn kind_ok(e: Entry, n: u16) -> bool
     requires { 1 ≤ n }
     ensures { result ≡ holds (kind_rule n (entry_meant e)) }

@@ -1,5 +1,5 @@
 -- What filling comes to: the fault of the program's inference, or what is written next.
-use Prim.Native.Nat.{ℕ, ◌+◌, ◌*◌, ◌-◌}
+use Prim.Native.Nat.{ℕ}
 use native.Mathlib.Omega.{arith}
 use mathlib.Core.List.{List, [], ◌++◌}
 use mathlib.Core.Option.{Option, some}
@@ -9,7 +9,7 @@ use lib.Seq.{length-take-le, take_at}
 use Rattle.std.specs.Prelude.{Result, Ok, Err}
 use Rattle.rules.specs.Editions.{first_edition}
 use Rattle.rules.specs.FieldUses.{omitted}
-use Rattle.rules.specs.Format.{type_count, record_count, table_of, records_of}
+use Rattle.rules.specs.Format.{table_of, records_of}
 use Rattle.rules.specs.Meets.{MeetsLayout}
 use Rattle.rules.specs.Refusals.{Refusal as MeantRefusal}
 use Rattle.rules.proofs.Meaning.{layout_exactly, records_counted}
@@ -20,11 +20,13 @@ use Rattle.records.specs.View.{entries_in, records_in}
 use Rattle.records.proofs.Overwriting.{overwritten_length}
 use Rattle.refusals.specs.declared.reasons.Refusal.{Refusal}
 use Rattle.refusals.specs.Reports.{refusal_meant}
+use Rattle.parts.specs.declared.Parts.{Parts}
+use Rattle.parts.specs.Layout.{ArePartsOf}
 use Rattle.filling.specs.declared.Progress.{Progress}
 use Rattle.filling.specs.Filling.{fault_of, FillsAll}
 use Rattle.infer_call.specs.declared.InferAnswer.{InferAnswer}
 use Rattle.infer_call.specs.Answers.{infer_meant, refused_by, CanTypeWith, CanWriteFilled, Types}
-use Rattle.infer_call.proofs.Parts.{records_are, types_fit, part_fits, table_front}
+use Rattle.infer_call.proofs.Parts.{types_fit, part_fits, table_front}
 
 -- An inference with a fault is that fault.
 fault_is : (o : Inference) (r : MeantRefusal) → fault_of o ≡ some r → o ≡ faulty r
@@ -35,35 +37,36 @@ fault_is (faulty q) r e = ap faulty (some_is e)
     some_is e = cc
 fault_is (filled A t) r e = let z : ◌≡◌ {A = ℕ} 0 1 = cc in absurd (omega arith)
 
-module _ (p out work table given : List ℕ) (h : CanTypeWith p out work table given) (T R : ℕ) (eT : T ≡ type_count p) (eR : R ≡ record_count p)
-    (tb : List ℕ) (copied : tb ≡ overwritten table 0 (take (4 + 6 * T - 4) (drop 4 p))) (tb' gs : List ℕ) where
+module _ (p out work table given : List ℕ) (h : CanTypeWith p out work table given) (parts : Parts) (a : ArePartsOf p parts)
+    (tb : List ℕ) (copied : tb ≡ overwritten table 0 parts.table.now) (tb' gs : List ℕ) where
   abbrev Ends : Result Progress Refusal → Type 0
-  Ends = FillsAll (records_in (take (length p - (4 + 6 * T)) (drop (4 + 6 * T) p))) R (entries_in tb) (entries_in tb') T gs
+  Ends = FillsAll (records_in parts.records.now) parts.count (entries_in tb) (entries_in tb') parts.types gs
 
   m : MeetsLayout omitted first_edition p
   m = h.can.layout
 
   -- The walk from the root is the program's inference.
-  inferred_is : inferred_from R (take T (entries_in tb)) (records_in (take (length p - (4 + 6 * T)) (drop (4 + 6 * T) p))) [] 0 1 ≡ inference first_edition p
+  inferred_is : inferred_from parts.count (take parts.types (entries_in tb)) (records_in parts.records.now) [] 0 1 ≡ inference first_edition p
   unfolding inference unless_refused
   inferred_is =
       rw ((layout_exactly omitted first_edition p).1 m)
-      (rw (records_are p out work table given h T R eT eR, table_front p out work table given h T R eT eR tb copied)
-      (ap (λ n. inferred_from n (table_of p) (records_of p) [] 0 1) (eR ∙ sym (records_counted p))))
+      (rw (a.records_are, table_front p out work table given h parts a tb copied)
+      (ap (λ n. inferred_from n (table_of p) (records_of p) [] 0 1) (a.count ∙ sym (records_counted p))))
 
   -- A fault is the answer, and nothing is changed.
-  pub type_faulty : (q : Refusal) → Ends (Err q) → (a : InferAnswer) → infer_meant a ≡ refused_by q → Types p out out work work a
-  type_faulty q fills a e =
+  pub type_faulty : (q : Refusal) → Ends (Err q) → (r : InferAnswer) → infer_meant r ≡ refused_by q → Types p out out work work r
+  type_faulty q fills r e =
       let o : inference first_edition p ≡ faulty (refusal_meant q) =
       fault_is (inference first_edition p) _ (ap fault_of (sym inferred_is) ∙ sym fills.reports) in
       record { answer = e ∙ ap answer_of (sym o); output = ap (λ i. output_of i out) (sym o); faulted = λ q d. refl }
 
   -- The types stand at the front of their array.
-  pub can_write : (q : Progress) → Ends (Ok q) → length tb' ≡ length tb → length gs ≡ length (take R given) → CanWriteFilled p out work tb' (gs ++ drop R given) q
+  pub can_write : (q : Progress) → Ends (Ok q) → length tb' ≡ length tb → length gs ≡ length (take parts.count given)
+      → CanWriteFilled p out work tb' (gs ++ drop parts.count given) q
   can_write q fills same kept =
       let done = fills.done in
-      let long : length gs ≡ R = kept ∙ length-take-le R given (types_fit p out work table given h T R eT eR) in
-      let all : length tb ≡ length table = ap length copied ∙ overwritten_length table 0 _ (part_fits p out work table given h T R eT eR) in
+      let long : length gs ≡ parts.count = kept ∙ length-take-le parts.count given (types_fit p out work table given h parts a) in
+      let all : length tb ≡ length table = ap length copied ∙ overwritten_length table 0 _ (part_fits p out work table given h parts a) in
       record {
         can = h.can;
         term = done.term;
@@ -71,6 +74,6 @@ module _ (p out work table given : List ℕ) (h : CanTypeWith p out work table g
         few = done.few;
         entries = same ∙ all ∙ h.entries;
         type = done.type;
-        room = omega (arith, length-append gs (drop R given), long, eR);
-        types = ap (λ n. take n (gs ++ drop R given)) (sym eR) ∙ take_at gs (drop R given) R long ∙ done.types;
+        room = omega (arith, length-append gs (drop parts.count given), long, a.count);
+        types = ap (λ n. take n (gs ++ drop parts.count given)) (sym a.count) ∙ take_at gs (drop parts.count given) parts.count long ∙ done.types;
       }

@@ -1,16 +1,16 @@
 -- The program that is written with what is filled.
-use Prim.Native.Nat.{ℕ, suc, ◌+◌, ◌*◌, ◌-◌, ◌/◌, ◌≤◌}
+use Prim.Native.Nat.{ℕ, suc, ◌*◌, ◌/◌, ◌≤◌}
 use native.Mathlib.Omega.{arith}
 use mathlib.Core.List.{List}
 use mathlib.Core.Path.{◌≡◌, ap, sym, subst, ◌∙◌}
-use lib.ListN.{length, take, drop}
+use lib.ListN.{length, take}
 use lib.Seq.{length-take-le}
 use mir.Val.{Fits}
 use mir.Syntax.{w32}
 use Rattle.rules.specs.Editions.{first_edition}
 use Rattle.rules.specs.Types.{Table}
 use Rattle.rules.specs.FieldUses.{omitted}
-use Rattle.rules.specs.Format.{most_types, type_count, record_count, table_of, records_of}
+use Rattle.rules.specs.Format.{most_types, table_of, records_of}
 use Rattle.rules.specs.Links.{root_tree, written}
 use Rattle.rules.specs.Meets.{MeetsLayout}
 use Rattle.rules.proofs.Meaning.{types_counted, records_counted}
@@ -21,7 +21,8 @@ use Rattle.inference.proofs.Calls.{inference_answered}
 use Rattle.inference.proofs.Growing.{longer}
 use Rattle.records.specs.View.{entries_in, records_in}
 use Rattle.records.proofs.Entries.{entries_length, entries_front}
-use Rattle.records.proofs.Program.{layout_records_slice}
+use Rattle.parts.specs.declared.Parts.{Parts}
+use Rattle.parts.specs.Layout.{ArePartsOf}
 use Rattle.records.proofs.Records.{records_length}
 use Rattle.terms.proofs.Loaded.{form_linked}
 use Rattle.writing.specs.Program.{WroteProgram}
@@ -48,11 +49,8 @@ module _ (p out work table given : List ℕ) (done : Progress) (h : CanWriteFill
   pub filled_long : 6 * done.types ≡ length (take (6 * done.types) table)
   filled_long = sym (length-take-le (6 * done.types) table filled_fits)
 
-  module _ (T R : ℕ) (eT : T ≡ type_count p) (eR : R ≡ record_count p) where
-    rs_are : records_in (take (length p - (4 + 6 * T)) (drop (4 + 6 * T) p)) ≡ records_of p
-    rs_are = sym (layout_records_slice omitted first_edition p m T eT)
-
-    fits : TypedFits (records_in (take (length p - (4 + 6 * T)) (drop (4 + 6 * T) p))) R (take R given) (take (6 * done.types) table) done.types (records_in work) out h.term
+  module _ (parts : Parts) (a : ArePartsOf p parts) where
+    fits : TypedFits (records_in parts.records.now) parts.count (take parts.count given) (take (6 * done.types) table) done.types (records_in work) out h.term
     fits =
         let c = m.counts in
         let f = answered.filling in
@@ -60,30 +58,30 @@ module _ (p out work table given : List ℕ) (done : Progress) (h : CanWriteFill
         record {
           ruled = A;
           typed = f.typed;
-          back = f.back ∙ ap root_tree (sym rs_are);
-          given = sym h.types ∙ ap (λ n. take n given) (sym eR);
-          linked = rw rs_are (form_linked omitted first_edition (omega arith) (table_of p) (records_of p) m.form);
-          counted = ap length rs_are ∙ records_counted p ∙ sym eR;
-          size_is = answered.records ∙ sym eR;
-          some = omega (arith, c.1.0, eR);
-          few = omega (arith, c.1.0, eR);
+          back = f.back ∙ ap root_tree (sym a.records_are);
+          given = sym h.types ∙ ap (λ n. take n given) (sym a.count);
+          linked = rw a.records_are (form_linked omitted first_edition (omega arith) (table_of p) (records_of p) m.form);
+          counted = ap length a.records_are ∙ records_counted p ∙ sym a.count;
+          size_is = answered.records ∙ sym a.count;
+          some = omega (arith, c.1.0, a.count);
+          few = omega (arith, c.1.0, a.count);
           entries = sym filled_long;
           some_types = omega (arith, longer f.begins, types_counted p, c.0, counted);
           few_types = h.few;
-          slots = omega (arith, records_length work, h.can.long, c.1.0, eR);
-          room = omega (arith, h.can.room, h.few, c.1.0, eR);
+          slots = omega (arith, records_length work, h.can.long, c.1.0, a.count);
+          room = omega (arith, h.can.room, h.few, c.1.0, a.count);
         }
 
-    pub write_asked : CanWriteTyped (records_in (take (length p - (4 + 6 * T)) (drop (4 + 6 * T) p))) R (take R given) (take (6 * done.types) table) done.types (records_in work) out
+    pub write_asked : CanWriteTyped (records_in parts.records.now) parts.count (take parts.count given) (take (6 * done.types) table) done.types (records_in work) out
     write_asked = record { tree = h.term; can = fits }
 
     module _ (out' : List ℕ) (n : ℕ)
-        (writes : WritesTyped (records_in (take (length p - (4 + 6 * T)) (drop (4 + 6 * T) p))) R (take R given) (take (6 * done.types) table) done.types (records_in work) out out' n) where
-      wrote : WroteProgram (take (6 * done.types) table) done.types R out out' h.term n
+        (writes : WritesTyped (records_in parts.records.now) parts.count (take parts.count given) (take (6 * done.types) table) done.types (records_in work) out out' n) where
+      wrote : WroteProgram (take (6 * done.types) table) done.types parts.count out out' h.term n
       wrote = writes.does h.term fits
 
       pub length_short : Fits w32 n
-      length_short = omega (arith, wrote.long, h.few, m.counts.1.0, eR)
+      length_short = omega (arith, wrote.long, h.few, m.counts.1.0, a.count)
 
       table_is : entries_in (take (6 * done.types) table) ≡ A
       table_is = entries_front table done.types filled_fits

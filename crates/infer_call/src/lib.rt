@@ -55,14 +55,12 @@ fn write_filled(
     requires { CanWriteFilled program.now output.old work.old table.now given.now done }
     ensures { Types program.now output.old output.new work.old work.new result }
 {
-    let types = records::get16(program, 0);
-    let count = records::get16(program, 2);
-    let end = 4 + 6 * (types as usize);
-    let last = count as usize;
+    let parts = parts::parts_of(program);
+    let last = parts.count as usize;
     let filled = 6 * (done.types as usize);
     let written = retyping::write_typed(
-        &program[end..],
-        count,
+        parts.records,
+        parts.count,
         &given[..last],
         &table[..filled],
         done.types,
@@ -89,12 +87,16 @@ fn type_with(
     requires { CanTypeWith program.now output.old work.old table.old given.old }
     ensures { Types program.now output.old output.new work.old work.new result }
 {
-    let types = records::get16(program, 0);
-    let count = records::get16(program, 2);
-    let end = 4 + 6 * (types as usize);
-    let last = count as usize;
-    writing::copy_bytes(&program[4..end], table, 0);
-    match filling::fill_all(&program[end..], count, table, types, &mut given[..last]) {
+    let parts = parts::parts_of(program);
+    let last = parts.count as usize;
+    writing::copy_bytes(parts.table, table, 0);
+    match filling::fill_all(
+        parts.records,
+        parts.count,
+        table,
+        parts.types,
+        &mut given[..last],
+    ) {
         Ok(done) => write_filled(program, output, work, table, given, done),
         Err(refusal) => refusing(refusal),
     }

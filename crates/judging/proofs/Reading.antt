@@ -6,7 +6,9 @@ use mathlib.Core.List.{List, ◌∷◌}
 use lib.ListN.{length, get_or, get_or-eq_default}
 use Rattle.rules.specs.Types.{no_entry}
 use Rattle.rules.specs.Typing.{binder, bind}
+use Rattle.records.specs.declared.Entry.{Entry}
 use Rattle.records.specs.View.{entries_in}
+use Rattle.records.specs.Meant.{entry_meant}
 use Rattle.records.specs.Places.{Within, IsEntry}
 use Rattle.records.proofs.Entries.{entries_length}
 use Rattle.judging.specs.Stack.{decoded, stack}
@@ -14,11 +16,12 @@ use Rattle.judging.specs.Tests.{IsBinder}
 
 -- Number 0 and a number past the table are no entries; another is one.
 module _ (s : List ℕ) (n : ℕ) where
-  pub zero_no_entry : n ≡ 0 → IsEntry (entries_in s) n (record { kind = 0; a = 0; b = 0 })
-  zero_no_entry e = record { is = rw e }
+  module _ (none : Entry) (is_none : entry_meant none ≡ no_entry) where
+    pub zero_no_entry : n ≡ 0 → IsEntry (entries_in s) n none
+    zero_no_entry e = record { is = rw e is_none }
 
-  pub no_entry_beyond : length s < 6 * n → IsEntry (entries_in s) n (record { kind = 0; a = 0; b = 0 })
-  no_entry_beyond h = record { is = sym (get_or-eq_default (no_entry ∷ entries_in s) no_entry {n = n} (omega (arith, entries_length s))) }
+    pub no_entry_beyond : length s < 6 * n → IsEntry (entries_in s) n none
+    no_entry_beyond h = record { is = is_none ∙ sym (get_or-eq_default (no_entry ∷ entries_in s) no_entry {n = n} (omega (arith, entries_length s))) }
 
   pub entry_there : (n ≡ 0 → ⊥) → 6 * n ≤ length s → Within (entries_in s) n
   entry_there z h = record { some = omega arith; most = omega (arith, entries_length s) }

@@ -8,6 +8,7 @@ ghost use Rattle.std.specs.Prelude.{◌≤◌, length};
 ghost use Rattle.rules.specs.Kinds.{match_application, match_function, match_fix};
 ghost use Rattle.rules.specs.Types.{Nat, Fn, Code};
 ghost use Rattle.records.specs.View.{entries_in};
+ghost use Rattle.records.specs.Meant.{entry_meant};
 ghost use Rattle.records.specs.Places.{IsEntry};
 ghost use Rattle.judging.specs.Stack.{stack};
 ghost use Rattle.judging.specs.Tests.{IsBinder, Tests, EntryTest, match_children_rule, IsMatch, ShapeTest, PatternTest, IndexTest, LevelTest, TypeTest, Judges, Names};
@@ -28,41 +29,37 @@ pub fn entry_if_any(table: &[u8], n: u16) -> Entry
     ensures { IsEntry (entries_in table.now) n result }
 {
     if n == 0 || table.len() < 6 * (n as usize) {
-        return Entry {
-            kind: 0,
-            a: 0,
-            b: 0,
-        };
+        return Entry::none();
     }
     records::entry_no(table, n)
 }
 
 // Whether entry n is this one.
-fn is_entry(table: &[u8], n: u16, kind: u16, a: u16, b: u16) -> bool
-    ensures { EntryTest (entries_in table.now) n (record { kind = kind; a = a; b = b }) result }
+fn is_entry(table: &[u8], n: u16, e: Entry) -> bool
+    ensures { EntryTest (entries_in table.now) n (entry_meant e) result }
 {
-    entry_if_any(table, n) == Entry { kind, a, b }
+    entry_if_any(table, n) == e
 }
 
 // Whether it is Nat.
 fn is_nat(table: &[u8], n: u16) -> bool
     ensures { EntryTest (entries_in table.now) n Nat result }
 {
-    is_entry(table, n, 1, 0, 0)
+    is_entry(table, n, Entry::nat())
 }
 
 // Whether it is Fn(p,q).
 fn is_fn(table: &[u8], n: u16, p: u16, q: u16) -> bool
     ensures { EntryTest (entries_in table.now) n (Fn p q) result }
 {
-    is_entry(table, n, 2, p, q)
+    is_entry(table, n, Entry::function(p, q))
 }
 
 // Whether it is Code(c).
 fn is_code(table: &[u8], n: u16, c: u16) -> bool
     ensures { EntryTest (entries_in table.now) n (Code c) result }
 {
-    is_entry(table, n, 3, c, 0)
+    is_entry(table, n, Entry::code(c))
 }
 
 // The binder that index i names; level 2 and type 0 where there is none.

@@ -1,3 +1,2 @@
 -- The laws of the tables.
-pub mod KindRanges
 pub mod Named

@@ -89,10 +89,10 @@ impl Kind {
     pub fn is_plain(self) -> bool
         ensures { result ≡ plain_kind (kind_meant self) }
     {
-        match self {
-            Kind::Number | Kind::Variable | Kind::Function | Kind::Application | Kind::Fix => true,
-            _ => false,
-        }
+        matches!(
+            self,
+            Kind::Number | Kind::Variable | Kind::Function | Kind::Application | Kind::Fix
+        )
     }
 
     // How many variables it binds over its first child.
@@ -159,7 +159,7 @@ impl Kind {
     {
         match self {
             Kind::Number | Kind::Variable | Kind::Function | Kind::Quote => false,
-            Kind::Splice => level == 1,
+            Kind::Splice => 0 < level,
             _ => level == 0,
         }
     }

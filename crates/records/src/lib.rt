@@ -5,7 +5,7 @@
 
 ghost use Rattle.std.specs.Prelude.{◌≡◌, ◌+◌, ◌*◌, ◌<◌, ◌≤◌, length, get_or, drop};
 ghost use Rattle.rules.specs.Terms.{number_held};
-ghost use Rattle.rules.specs.Types.{no_entry};
+ghost use Rattle.rules.specs.Types.{no_entry, Nat, Fn, Code};
 ghost use Rattle.rules.specs.Format.{u16, u32, bytes16, bytes32, entry_of, entry_bytes, record_of, record_bytes, no_record};
 ghost use Rattle.records.specs.Overwritten.{overwritten};
 ghost use Rattle.records.specs.View.{entries_in, records_in, EntryPut, RecordPut};
@@ -30,6 +30,44 @@ pub struct Entry {
     pub kind: u16,
     pub a: u16,
     pub b: u16,
+}
+
+impl Entry {
+    // No entry: no kind of type has number 0.
+    pub fn none() -> Entry
+        ensures { entry_meant result ≡ no_entry }
+    {
+        Entry {
+            kind: 0,
+            a: 0,
+            b: 0,
+        }
+    }
+
+    // The type of numbers.
+    pub fn nat() -> Entry
+        ensures { entry_meant result ≡ Nat }
+    {
+        Entry {
+            kind: 1,
+            a: 0,
+            b: 0,
+        }
+    }
+
+    // The type of functions from a to b.
+    pub fn function(a: u16, b: u16) -> Entry
+        ensures { entry_meant result ≡ Fn a b }
+    {
+        Entry { kind: 2, a, b }
+    }
+
+    // The type of code of type a.
+    pub fn code(a: u16) -> Entry
+        ensures { entry_meant result ≡ Code a }
+    {
+        Entry { kind: 3, a, b: 0 }
+    }
 }
 
 // The field of two bytes at `at`, low byte first.

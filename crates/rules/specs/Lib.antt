@@ -17,7 +17,6 @@ pub mod Typing
 pub mod Values
 pub mod Indices
 pub mod Matching
-pub mod Sought
 pub mod Contractions
 pub mod Steps
 pub mod Next

@@ -2,11 +2,14 @@
 // field of it and every byte of the output.
 #![tactic(auto)]
 
-ghost use Rattle.std.specs.Prelude.{◌≡◌};
+ghost use Rattle.std.specs.Prelude.{◌≡◌, length};
 ghost use Rattle.rules.specs.Editions.{first_edition};
-ghost use Rattle.rules.specs.Run.{refused};
+ghost use Rattle.rules.specs.Run.{refused, run_refusal};
+ghost use Rattle.refusals.specs.Reports.{Reports, reason_number};
 ghost use Rattle.running.specs.Programs.{CanRunProgram};
 ghost use Rattle.run_call.specs.Answers.{run_meant, Accepted, Ran};
+
+use refusals::Refusal;
 
 // What a run answers. Accepted: number and place are 0, ending is 1 for a value, 2 for spent fuel and 3 for a full table; the steps made, the
 // root's type, the written length, and how many variables gave way in all the steps, which can pass 32 bits. Refused: document 01's number and place,
@@ -24,12 +27,12 @@ pub struct RunAnswer {
 }
 
 // The answer of a refused run.
-fn refusing(number: u16, place: u16) -> RunAnswer
-    ensures { run_meant result ≡ refused number place }
+fn refusing(refusal: Refusal) -> RunAnswer
+    ensures { run_meant result ≡ refused (reason_number refusal.reason) refusal.place }
 {
     RunAnswer {
-        number: number as u32,
-        place: place as u32,
+        number: refusal.reason.number() as u32,
+        place: refusal.place as u32,
         ending: 0,
         steps: 0,
         root_type: 0,
@@ -48,7 +51,7 @@ fn accepted(program: &[u8], fuel: u32, output: &mut [u8], work: &mut [u8]) -> Ru
     RunAnswer {
         number: 0,
         place: 0,
-        ending: done.ending,
+        ending: done.ending.number(),
         steps: done.steps,
         root_type: root as u32,
         written: done.written,
@@ -56,18 +59,22 @@ fn accepted(program: &[u8], fuel: u32, output: &mut [u8], work: &mut [u8]) -> Ru
     }
 }
 
+// The refusal of a call with these buffers: 1 and 2, then the program's.
+#[tactic(auto, using(crate::proofs::Answering::buffers_refused, crate::proofs::Answering::program_told))]
+fn call_refusal(program: &[u8], output: &[u8], work: &[u8]) -> Result<(), Refusal>
+    ensures { Reports result (run_refusal first_edition program.now (length output.now) (length work.now)) }
+{
+    lending::buffers_refusal(output.len(), work.len())?;
+    checker::program_refusal(program, kinds::first_edition())
+}
+
 // Runs a program of any bytes, with any fuel and buffers of any length.
+#[tactic(auto, using(crate::proofs::Answering::answering))]
 pub fn run(program: &[u8], fuel: u32, output: &mut [u8], work: &mut [u8]) -> RunAnswer
     ensures { Ran program.now fuel output.old work.old result output.new work.new }
 {
-    let lent = lending::buffers_refusal(output.len(), work.len());
-    if lent.number != 0 {
-        return refusing(lent.number, lent.place);
+    match call_refusal(program, output, work) {
+        Ok(()) => accepted(program, fuel, output, &mut work[..lending::WORK]),
+        Err(refusal) => refusing(refusal),
     }
-    let verdict = checker::program_refusal(program, kinds::first_edition());
-    let number = verdict.number;
-    if number != 0 {
-        return refusing(number, verdict.place);
-    }
-    accepted(program, fuel, output, &mut work[..lending::WORK])
 }

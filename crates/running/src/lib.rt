@@ -110,13 +110,12 @@ fn finish(
 }
 
 // Runs a program that is passed, in a work buffer of just the length that a run needs.
+#[tactic(auto, using(crate::proofs::Programs::running_programs))]
 pub fn run_program(program: &[u8], fuel: u32, output: &mut [u8], work: &mut [u8]) -> Completion
     requires { CanRunProgram first_edition program.now output.old work.old }
     ensures { RunsProgram program.now fuel output.old output.new result }
 {
-    let types = records::get16(program, 0);
-    let count = records::get16(program, 2);
-    let end = 4 + 6 * (types as usize);
-    let start = State::start(&program[end..], count, work);
-    finish(start, &program[4..end], types, fuel, work, output)
+    let parts = parts::parts_of(program);
+    let start = State::start(parts.records, parts.count, work);
+    finish(start, parts.table, parts.types, fuel, work, output)
 }

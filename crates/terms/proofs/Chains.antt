@@ -10,7 +10,7 @@ use Rattle.rules.specs.Conditions.{Holds}
 use Rattle.rules.specs.Format.{Record, record_no}
 use Rattle.rules.specs.Links.{first_of, next_of, node, tree_of}
 use Rattle.rules.specs.Check.{children}
-use Rattle.kinds.proofs.KindRanges.{number_back}
+use Rattle.kinds.proofs.Named.{number_back}
 use Rattle.rules.proofs.Tree.{first_le, first_above, next_le, next_above}
 use Rattle.terms.specs.Loads.{WellLinked}
 use Rattle.terms.proofs.Children.{kids}

@@ -12,9 +12,7 @@ ghost use Rattle.terms.specs.Moves.{CanMove, Moved};
 ghost use Rattle.records.specs.Places.{Within};
 ghost use Rattle.terms.specs.Loads.{CanPutRoot, PutsRoot, CanLoad};
 
-pub use measuring::{
-    binders_over, bound_at, is_plain_at, kind_at, mark_root, relink, root_kind, skip, without,
-};
+pub use measuring::{binders_over, bound_at, is_plain_at, mark_root, relink, root_kind, skip};
 
 // Copies the `n` records from `src` on to `dst`, as they are. The first goes first, so that the two parts may overlap where `dst` is before `src`.
 // A loop over the records: by the library's `copy_within` a step of a small term takes 1.2 times as long.

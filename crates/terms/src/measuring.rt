@@ -17,16 +17,7 @@ struct Measure {
     pub plain: bool,
 }
 
-// The kind of the record at `i`.
-pub fn kind_at(w: &[u8], i: usize) -> Kind
-    requires { i < length (records_in w.now) }
-    ensures { KindIs (records_in w.now) i result }
-{
-    let r = records::get(w, i);
-    Kind::of(r.kind)
-}
-
-// The same of a record that has a known kind, as a tree's root and a frame's record have.
+// The kind of the record at `i`, which has a known one, as a tree's root and a frame's record have.
 pub fn root_kind(w: &[u8], i: usize) -> Kind
     requires { HasKind (records_in w.now) i }
     ensures { KindIs (records_in w.now) i result }
@@ -60,13 +51,6 @@ pub fn is_plain_at(w: &[u8], i: usize) -> bool
 {
     let r = records::get(w, i);
     r.next % 2 == 1
-}
-
-// x without m, or 0 where x is less.
-pub fn without(x: u16, m: u16) -> u16
-    ensures { result ≡ x - m }
-{
-    if x < m { 0 } else { x - m }
 }
 
 // How many variables a record of this kind binds over its child `j`, counted from 0.

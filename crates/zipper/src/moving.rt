@@ -5,7 +5,8 @@ ghost use Rattle.zipper.specs.Moving.{CanMoveUp, CanPutAhead, PutsAhead, HasMatc
 
 use crate::focus::{Ahead, Focus, link_at, skip_all};
 
-// Copies the `n` records from `src` on up to `dst`, as they are, from the last one on: the two parts may have records in common.
+// Copies the `n` records from `src` on up to `dst`, as they are, from the last one on: the two parts may have records in common. A loop, as
+// `copy_flat` is.
 fn copy_up(w: &mut [u8], src: usize, dst: usize, n: usize)
     requires { CanMoveUp (records_in w.old) src dst n }
     ensures { Moved (records_in w.old) (records_in w.new) src dst n }

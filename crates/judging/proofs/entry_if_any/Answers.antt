@@ -5,8 +5,8 @@ use Rattle.judging.proofs.entry_if_any.Goals.{then-n-eq0-via-then-n-eq0, then-n-
 
 pub returns-then-n-eq0 : goal.returns-then-n-eq0
 returns-then-n-eq0 c = elim c.then-n-eq0.branch [
-  | then-n-eq0-via-then-n-eq0 w ↦ zero_no_entry _ _ w.if-n-eq0.true
-  | then-n-eq0-via-else-n-eq0+then-table-n w ↦ no_entry_beyond _ _ w.if-table-n.true
+  | then-n-eq0-via-then-n-eq0 w ↦ zero_no_entry _ _ _ c.none.ensures w.if-n-eq0.true
+  | then-n-eq0-via-else-n-eq0+then-table-n w ↦ no_entry_beyond _ _ _ c.none.ensures w.if-table-n.true
 ]
 
 pub entry_no-requires : goal.entry_no-requires

@@ -1,0 +1,2 @@
+-- The laws of the parts of a program.
+pub mod Parting
