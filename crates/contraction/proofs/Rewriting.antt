@@ -235,4 +235,27 @@ module _ (rs : List Record) (s : ℕ) where
     pub lift_planned : (q : Plan) → PlansRedex rs s on_lift q → PlansWhole rs s q
     lift_planned = redex_planned Lift e on_lift refl
 
-pub ruleset rewriting = (child_fits, grandchild_fits, behind_child_fits, redex_in, function_there, body_of_function, body_of_fix, apply_plans, unroll_plans, lift_plans, whole_known, application_told, application_there, application_planned, fix_told, fix_there, fix_planned, lift_told, lift_there, lift_planned, splice_told, splice_left)
+pub ruleset rewriting = (
+  child_fits,
+  grandchild_fits,
+  behind_child_fits,
+  redex_in,
+  function_there,
+  body_of_function,
+  body_of_fix,
+  apply_plans,
+  unroll_plans,
+  lift_plans,
+  whole_known,
+  application_told,
+  application_there,
+  application_planned,
+  fix_told,
+  fix_there,
+  fix_planned,
+  lift_told,
+  lift_there,
+  lift_planned,
+  splice_told,
+  splice_left,
+)

@@ -82,7 +82,7 @@ pub record RootCopied (q : ℕ) (s₀ s s₁ : List ℕ) (src dst n d all i : �
   pub same : length s₁ ≡ length s₀
   pub known : k ≡ kind_of r.kind
 
-module _ (q : ℕ) (s₀ s s₁ : List ℕ) (src dst n d all i : ℕ) (r : Record) (k : Kind) (o : RootCopied q s₀ s s₁ src dst n d all i r k) where
+module _ {q : ℕ} {s₀ s s₁ : List ℕ} {src dst n d all i : ℕ} {r : Record} {k : Kind} (o : RootCopied q s₀ s s₁ src dst n d all i r k) where
   abbrev Opened : List ℕ → ℕ → List ℕ → Type 0
   Opened s j fs = Pending (records_in s₀) src dst n d (records_in s) j fs
 
@@ -98,10 +98,10 @@ module _ (q : ℕ) (s₀ s s₁ : List ℕ) (src dst n d all i : ℕ) (r : Recor
       over (suc (suc j)) _ = refl
 
   pub next_from_fits : Fits w64 (src + (i + 1))
-  next_from_fits = omega (arith, read_fits s₀ s src dst n d all i r o.tree, o.tree.going)
+  next_from_fits = omega (arith, read_fits o.tree, o.tree.going)
 
   pub next_to_fits : Fits w64 (dst + (i + 1))
-  next_to_fits = omega (arith, read_fits s₀ s src dst n d all i r o.tree, o.tree.going)
+  next_to_fits = omega (arith, read_fits o.tree, o.tree.going)
 
   falls : (s' : List ℕ) (a b e : ℕ) → length s' ≡ length s₀ → src < a → CanRaise (records_in s') a b n e → length (records_in s') - a < q
   falls s' a b e m l h = omega (arith, raise_in (records_in s') a b n e h, o.measure, records_length s₀, records_length s')
@@ -157,9 +157,9 @@ pub record CodeCopied (q : ℕ) (s₀ s s₁ s₂ : List ℕ) (src dst n d all i
   pub same : length s₂ ≡ length s₀
 
 -- Its success is the next tree. What the code computes of the binders over it is an equation.
-module _ (q : ℕ) (s₀ s s₁ s₂ : List ℕ) (src dst n d all i : ℕ) (r : Record) (k : Kind) (z : ℕ) (o : CodeCopied q s₀ s s₁ s₂ src dst n d all i r k z) where
+module _ {q : ℕ} {s₀ s s₁ s₂ : List ℕ} {src dst n d all i : ℕ} {r : Record} {k : Kind} {z : ℕ} (o : CodeCopied q s₀ s s₁ s₂ src dst n d all i r k z) where
   code_opened : Pending (records_in s₀) src dst n d (records_in s₁) (i + 1) (d ∷ (d + binders_second k) ∷ [])
-  code_opened = match_opened q s₀ s s₁ src dst n d all i r k o.match o.binds
+  code_opened = match_opened o.match o.binds
 
   code_copied : Pending (records_in s₀) src dst n d (records_in s₂) (i + 1 + z) ((d + binders_second k) ∷ [])
   code_copied = opened_copied (records_in s₀) src dst n d (records_in s₁) (i + 1) d _ code_opened (omega arith) (omega arith) z o.size (records_in s₂) o.copy
@@ -192,7 +192,7 @@ module _ (q : ℕ) (s₀ s s₁ s₂ : List ℕ) (src dst n d all i : ℕ) (r : 
     success_can = opened_can (records_in s₀) src dst n d (records_in s₂) (i + 1 + z) (d + x) [] success_opened (omega arith) few
 
     pub success_falls : length (records_in s₂) - (src + (i + 1 + z)) < q
-    success_falls = falls q s₀ s s₁ src dst n d all i r k o.match s₂ _ _ _ o.same (omega arith) success_can
+    success_falls = falls o.match s₂ _ _ _ o.same (omega arith) success_can
 
     module _ (z' : ℕ) (t : TreeSize (records_in s₂) (src + (i + 1 + z)) z') where
       pub success_fits : Fits w64 (i + 1 + z + z')

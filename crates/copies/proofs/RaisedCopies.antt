@@ -150,7 +150,7 @@ pub record TreeRead (s₀ s : List ℕ) (src dst n d all i : ℕ) (r : Record) :
   pub going : i < all
   pub read : r ≡ get_or (records_in s) (src + i) no_record
 
-module _ (s₀ s : List ℕ) (src dst n d all i : ℕ) (r : Record) (o : TreeRead s₀ s src dst n d all i r) where
+module _ {s₀ s : List ℕ} {src dst n d all i : ℕ} {r : Record} (o : TreeRead s₀ s src dst n d all i r) where
   can : CanRaise (records_in s) (src + i) (dst + i) n d
   can = turn_can (records_in s₀) src dst n d all o.whole (records_in s) i o.row o.going
 

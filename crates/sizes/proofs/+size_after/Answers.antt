@@ -14,13 +14,17 @@ pub known-kind-requires : goal.known-kind-requires
 known-kind-requires t c = count_known _ _ _ _ _ _ c.get-r.ensures c.requires
 
 pub returns-then-gives_way : goal.returns-then-gives_way
-returns-then-gives_way t c = counts_use _ _ _ _ _ _ _ c.get-r.ensures (omega arith) _ c.known-kind.ensures _ c.children-children.ensures _ c.gives_way.ensures c.if-gives_way.true _ c.chosen.ensures
+returns-then-gives_way t c =
+    counts_use _ _ _ _ _ _ _ c.get-r.ensures (omega arith) _ c.known-kind.ensures _ c.children-children.ensures _ c.gives_way.ensures
+    c.if-gives_way.true _ c.chosen.ensures
 
 pub overflow_add-at : goal.overflow_add-at
 overflow_add-at t c = search (counting, rules)
 
 pub loop-j-init : goal.loop-j-init
-loop-j-init t c = walk_starts _ _ _ _ _ _ _ c.get-r.ensures (omega arith) _ c.known-kind.ensures _ c.children-children.ensures _ c.gives_way.ensures c.if-gives_way.false c.requires
+loop-j-init t c =
+    walk_starts _ _ _ _ _ _ _ c.get-r.ensures (omega arith) _ c.known-kind.ensures _ c.children-children.ensures _ c.gives_way.ensures
+    c.if-gives_way.false c.requires
 
 pub skip-after-requires : goal.skip-after-requires
 skip-after-requires t c = search (counting, rules)
@@ -35,4 +39,6 @@ pub loop-j-preserved : goal.loop-j-preserved
 loop-j-preserved t c = search (counting, rules)
 
 pub returns : goal.returns
-returns t c = walk_ends _ _ _ _ _ _ _ c.get-r.ensures (omega arith) _ c.known-kind.ensures _ c.children-children.ensures _ c.gives_way.ensures c.if-gives_way.false _ _ _ c.loop-j.invariant (omega arith)
+returns t c =
+    walk_ends _ _ _ _ _ _ _ c.get-r.ensures (omega arith) _ c.known-kind.ensures _ c.children-children.ensures _ c.gives_way.ensures
+    c.if-gives_way.false _ _ _ c.loop-j.invariant (omega arith)
