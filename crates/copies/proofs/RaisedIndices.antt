@@ -4,14 +4,16 @@ use native.Mathlib.Omega.{arith}
 use native.Mathlib.Decide.{dec_lt}
 use mathlib.Core.Bool.{Bool, true, false}
 use mathlib.Core.Path.{◌≡◌, refl, ap, ◌∙◌}
-use lib.Dec.{eqb}
+use lib.Dec.{leb, eqb}
 use denote.Enum.Bare.{sameb}
-use borrow.Author.Tests.{lt-ltb, le-ltb}
+use borrow.Author.Tests.{lt-ltb, le-ltb, lt-leb, le-leb, ne_eqb}
 use mir.Val.{bool_byte}
-use Rattle.rules.specs.Lists.{pick}
+use Rattle.rules.specs.Lists.{pick, listed}
+use Rattle.rules.specs.Kinds.{kind_of, numbered}
 use Rattle.rules.specs.FieldUses.{uses, use_number}
 use Rattle.rules.specs.Indices.{raised_index}
 use Rattle.kinds.specs.Named.{kind_meant}
+use Rattle.kinds.proofs.Named.{in_range, unknown_kind}
 use Rattle.kinds.specs.contracts.names.Kind.{the_type}
 use Rattle.kinds.specs.declared.names.Kind.{Kind}
 use Rattle.kinds.specs.declared.names.Kind.TheVariants.{Number, Variable, Function, Application, Fix, Lift, Quote, Splice, MatchNumber, MatchVariable, MatchApplication, MatchLift, MatchFunction, MatchFix}
@@ -22,22 +24,38 @@ pub product_low : (n : ℕ) (b : Bool) → n * bool_byte b ≤ n
 product_low n true = omega arith
 product_low n false = omega arith
 
--- Two kinds use their field a for an index.
-index_bit : (k : Kind) → bool_byte (sameb the_type k Variable) + bool_byte (sameb the_type k MatchVariable) ≡ bool_byte (eqb (use_number (uses (kind_meant k)).a) 1)
-index_bit Number = refl
-index_bit Variable = refl
-index_bit Function = refl
-index_bit Application = refl
-index_bit Fix = refl
-index_bit Lift = refl
-index_bit Quote = refl
-index_bit Splice = refl
-index_bit MatchNumber = refl
-index_bit MatchVariable = refl
-index_bit MatchApplication = refl
-index_bit MatchLift = refl
-index_bit MatchFunction = refl
-index_bit MatchFix = refl
+pub index_sum : (n d i : ℕ) → i + n * bool_byte (leb d i) ≡ raised_index n d i
+index_sum n d i = elim (dec_lt i d) [
+  | yes l ↦ rw (lt-leb d i l, lt-ltb i d l) (omega arith)
+  | no l ↦ rw (le-leb d i (omega arith), le-ltb i d (omega arith)) (omega arith)
+]
+
+-- Kinds 2 and 10 use their field a for an index: of a number, and of a kind by name.
+abbrev index_bit : ℕ → ℕ
+index_bit k = bool_byte (eqb k 2) + bool_byte (eqb k 10)
+
+index_bit_lem : (k : ℕ) → index_bit k ≡ bool_byte (eqb (use_number (uses (kind_of k)).a) 1)
+unfolding kind_of numbered listed
+index_bit_lem k = elim (dec_lt k 15) [
+  | yes l ↦ in_range (λ k. index_bit k ≡ bool_byte (eqb (use_number (uses (kind_of k)).a) 1)) 0 15 (omega arith) k (omega arith) l
+  | no l ↦ rw (unknown_kind k (λ p q. omega arith), ne_eqb k 2 (λ e. omega arith), ne_eqb k 10 (λ e. omega arith)) refl
+]
+
+kind_bits : (k : Kind) → bool_byte (sameb the_type k Variable) + bool_byte (sameb the_type k MatchVariable) ≡ bool_byte (eqb (use_number (uses (kind_meant k)).a) 1)
+kind_bits Number = refl
+kind_bits Variable = refl
+kind_bits Function = refl
+kind_bits Application = refl
+kind_bits Fix = refl
+kind_bits Lift = refl
+kind_bits Quote = refl
+kind_bits Splice = refl
+kind_bits MatchNumber = refl
+kind_bits MatchVariable = refl
+kind_bits MatchApplication = refl
+kind_bits MatchLift = refl
+kind_bits MatchFunction = refl
+kind_bits MatchFix = refl
 
 module _ (n d a : ℕ) where
   field_sum : (b : Bool) → raised_index (n * bool_byte b) d a ≡ pick b (raised_index n d a) a
@@ -46,4 +64,4 @@ module _ (n d a : ℕ) where
 
   pub field_raised : (k : Kind) (x y : Bool) → x ≡ sameb the_type k Variable → y ≡ sameb the_type k MatchVariable → raised_index (n * (bool_byte x + bool_byte y)) d a ≡ moved_field (raised_index n d) (kind_meant k) a
   unfolding moved_field
-  field_raised k x y p q = rw (p, q) (ap (λ z. raised_index (n * z) d a) (index_bit k) ∙ field_sum (eqb (use_number (uses (kind_meant k)).a) 1))
+  field_raised k x y p q = rw (p, q) (ap (λ z. raised_index (n * z) d a) (kind_bits k) ∙ field_sum (eqb (use_number (uses (kind_meant k)).a) 1))

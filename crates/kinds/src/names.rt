@@ -1,4 +1,4 @@
-// The kinds by name, and the tables of what each has and does: code asks these. The type rules (`judging`) and the step rules (`contraction`,
+// The kinds by name, and the tables of what each has and does, by the kind's number and its ranges: code asks these. The type rules (`judging`) and the step rules (`contraction`,
 // `matching`), which are each kind's own, are matched by the kind where they stand.
 ghost use Rattle.std.specs.Prelude.{◌≡◌, ◌≤◌};
 ghost use Rattle.rules.specs.Kinds.{child_count, kind_of, kind_number};
@@ -89,18 +89,18 @@ impl Kind {
     pub fn is_plain(self) -> bool
         ensures { result ≡ plain_kind (kind_meant self) }
     {
-        matches!(
-            self,
-            Kind::Number | Kind::Variable | Kind::Function | Kind::Application | Kind::Fix
-        )
+        match self.number() {
+            1..=5 => true,
+            _ => false,
+        }
     }
 
     // How many variables it binds over its first child.
     pub fn binders_first(self) -> u16
         ensures { result ≡ binders_first (kind_meant self) }
     {
-        match self {
-            Kind::Function => 1,
+        match self.number() {
+            3 => 1,
             _ => 0,
         }
     }
@@ -109,9 +109,9 @@ impl Kind {
     pub fn binders_second(self) -> u16
         ensures { result ≡ binders_second (kind_meant self) }
     {
-        match self {
-            Kind::MatchApplication => 2,
-            Kind::MatchLift | Kind::MatchFunction | Kind::MatchFix => 1,
+        match self.number() {
+            11 => 2,
+            12..=14 => 1,
             _ => 0,
         }
     }
@@ -120,10 +120,10 @@ impl Kind {
     pub fn may_stand(self, level: u16) -> bool
         ensures { result ≡ holds (standing level (levels (kind_meant self))) }
     {
-        match self {
-            Kind::Number | Kind::Variable | Kind::Function | Kind::Application | Kind::Fix => true,
-            Kind::Splice => level == 1,
-            _ => level == 0,
+        match self.number() {
+            6..=7 | 9..=14 => level == 0,
+            8 => level == 1,
+            _ => true,
         }
     }
 
@@ -143,11 +143,11 @@ impl Kind {
         requires { level ≤ 1 }
         ensures { result ≡ stepping level (kind_meant self) }
     {
-        match self {
-            Kind::Number | Kind::Variable => 0,
-            Kind::Application => 2,
-            Kind::Fix => 1,
-            Kind::Function | Kind::Splice => level,
+        match self.number() {
+            1..=2 => 0,
+            3 | 8 => level,
+            4 => 2,
+            5 => 1,
             _ => 1 - level,
         }
     }
@@ -157,10 +157,10 @@ impl Kind {
         requires { level ≤ 1 }
         ensures { result ≡ contracts level (kind_meant self) }
     {
-        match self {
-            Kind::Number | Kind::Variable | Kind::Function | Kind::Quote => false,
-            Kind::Splice => 0 < level,
-            _ => level == 0,
+        match self.number() {
+            8 => 0 < level,
+            4..=6 | 9..=14 => level == 0,
+            _ => false,
         }
     }
 
