@@ -1,6 +1,6 @@
 -- Each arm is what is wanted for its kind.
 use Rattle.std.proofs.Common.{ap, refl, inl, inr}
-use Rattle.inference.specs.Inference.{known}
+use Rattle.inference.specs.Inference.{known, made}
 use Rattle.judging.proofs.TypeRule.{a_match}
 use Rattle.assigning.specs.Assigning.{wanted_meant}
 use Rattle.assigning.proofs.Candidates.{kind_wants, match_wants}
@@ -8,7 +8,7 @@ use Rattle.assigning.proofs.wanted.Goals as goal
 
 pub returns-in-Number : goal.returns-in-Number
 unfolding wanted_meant
-returns-in-Number c = kind_wants _ _ _ _ _ _ _ c.of.ensures _ c.in-Number.is refl
+returns-in-Number c = kind_wants _ _ _ _ _ _ _ c.of.ensures _ c.in-Number.is (ap made c.nat.ensures)
 
 pub returns-in-Variable : goal.returns-in-Variable
 unfolding wanted_meant
@@ -16,7 +16,7 @@ returns-in-Variable c = kind_wants _ _ _ _ _ _ _ c.of.ensures _ c.in-Variable.is
 
 pub returns-in-Function : goal.returns-in-Function
 unfolding wanted_meant
-returns-in-Function c = kind_wants _ _ _ _ _ _ _ c.of.ensures _ c.in-Function.is refl
+returns-in-Function c = kind_wants _ _ _ _ _ _ _ c.of.ensures _ c.in-Function.is (ap made c.function.ensures)
 
 pub returns-in-Application : goal.returns-in-Application
 unfolding wanted_meant
@@ -30,7 +30,7 @@ returns-in-Fix c =
 
 pub returns-in-Lift : goal.returns-in-Lift
 unfolding wanted_meant
-returns-in-Lift c = elim c.in-Lift.is [ inl h ↦ kind_wants _ _ _ _ _ _ _ c.of.ensures _ h refl | inr h ↦ kind_wants _ _ _ _ _ _ _ c.of.ensures _ h refl ]
+returns-in-Lift c = elim c.in-Lift.is [ inl h ↦ kind_wants _ _ _ _ _ _ _ c.of.ensures _ h (ap made c.code.ensures) | inr h ↦ kind_wants _ _ _ _ _ _ _ c.of.ensures _ h (ap made c.code.ensures) ]
 
 pub returns-in_default : goal.returns-in_default
 unfolding wanted_meant
