@@ -1,16 +1,16 @@
 -- What a run's answer and its output say of the program, where its buffers are long enough: the refusal, or the records of the last term.
-use Prim.Native.Nat.{ℕ, ◌+◌, ◌*◌, ◌-◌, ◌≤◌}
+use Prim.Native.Nat.{ℕ, ◌+◌, ◌*◌, ◌≤◌}
 use native.Mathlib.Omega.{arith}
 use mathlib.Core.List.{List}
 use mathlib.Core.Option.{Option, none, some}
-use mathlib.Core.Path.{◌≡◌, refl, sym, ap, ap₂, ◌∙◌}
+use mathlib.Core.Path.{◌≡◌, refl, sym, ap, ◌∙◌}
 use borrow.Author.Tests.{eq-eqb, ne_eqb}
-use lib.ListN.{length, take, drop, length-append, length-drop}
-use lib.Seq.{take-append-le, drop-append-le}
+use lib.ListN.{length, take, drop, length-append}
+use lib.Seq.{take_at}
 use Rattle.rules.specs.Editions.{first_edition}
 use Rattle.rules.specs.Terms.{Term}
 use Rattle.rules.specs.FieldUses.{given}
-use Rattle.rules.specs.Format.{most_records, u16, type_count, record_count, table_of, records_of, program_bytes}
+use Rattle.rules.specs.Format.{most_records, type_count, record_count, table_of, records_of}
 use Rattle.rules.specs.Links.{laid}
 use Rattle.rules.specs.Refusals.{Refusal, OneOfTwelve, ◌then◌}
 use Rattle.rules.specs.Check.{refusal}
@@ -20,23 +20,22 @@ use Rattle.rules.proofs.General.{Gives}
 use Rattle.rules.proofs.Twelve.{refusal_numbered}
 use Rattle.rules.proofs.Meaning.{buffers_passed, exactly}
 use Rattle.rules.proofs.Laid.{length_laid}
-use Rattle.rules.proofs.Bytes.{Back, u16_back}
+use Rattle.rules.proofs.Bytes.{Back}
 use Rattle.rules.proofs.Written.{GoodTable, back, layout_table}
 use Rattle.rules.proofs.Whole.{last_typed, last_small}
-use Rattle.records.specs.View.{records_in}
-use Rattle.records.proofs.Program.{program_records_slice}
+use Rattle.parts.specs.Layout.{IsLaidOut}
 use Rattle.run_call.specs.declared.RunAnswer.{RunAnswer}
 use Rattle.run_call.specs.Answers.{run_meant, Accepted, Ran}
 use Rattle.listing_text.specs.Text.{refused_text, accepted_text}
 use Rattle.listings.specs.Listing.{answer_text, run_text}
 
--- The bytes from `start` to the written length are the records of the last term, and what is listed of the run is made of them and of the answer.
-pub record Listed (p : List ℕ) (fuel : ℕ) (a : RunAnswer) (out : List ℕ) (start : ℕ) : Type 0 where
+-- The first bytes, as many as are written, are a program with the records of the last term, and what is listed of the run is made of them and of the answer.
+pub record Listed (p : List ℕ) (fuel : ℕ) (a : RunAnswer) (out : List ℕ) : Type 0 where
   pub ending : (1 ≤ a.ending) × (a.ending ≤ 3)
-  pub from : start ≤ a.written
   pub to : a.written ≤ length out
-  pub few : length (records_in (take (a.written - start) (drop start out))) ≤ most_records
-  pub text : accepted_text a.ending a.steps a.root_type (records_in (take (a.written - start) (drop start out))) ≡ run_text p fuel
+  pub laid_out : IsLaidOut (take a.written out)
+  pub few : length (records_of (take a.written out)) ≤ most_records
+  pub text : accepted_text a.ending a.steps a.root_type (records_of (take a.written out)) ≡ run_text p fuel
 
 ending_range : (e : Ending) → (1 ≤ ending_number e) × (ending_number e ≤ 3)
 ending_range valued = omega arith
@@ -98,41 +97,20 @@ module _ (p : List ℕ) (fuel : ℕ) (out work : List ℕ) (room : output_needed
       last_back : Back (table_of p) (laid 1 0 last)
       last_back = back (table_of p) last table_good (last_typed first_edition (omega arith) p m fuel).0 (last_small first_edition (omega arith) p m fuel)
 
-      types_back : u16 out' 0 ≡ length (table_of p)
-      unfolding program_bytes
-      types_back = rw accepted_run.output (u16_back (length (table_of p)) (omega (arith, table_good.few)))
-
       written_is : a.written ≡ length bytes
       written_is = ap (λ x. x.written) accepted_run.answer
 
-      module _ (T : ℕ) (eT : T ≡ u16 out' 0) where
-        abbrev start : ℕ
-        start = 4 + 6 * T
+      exact : length bytes ≡ 4 + 6 * type_count bytes + 16 * record_count bytes
+      exact = omega (arith, last_back.length_back, last_back.type_count_back, last_back.record_count_back)
 
-        start_is : start ≡ 4 + 6 * type_count bytes
-        start_is = omega (arith, eT, types_back, last_back.type_count_back)
+      front_is : take a.written out' ≡ bytes
+      front_is = ap (take a.written) accepted_run.output ∙ take_at bytes (drop (length bytes) out) a.written (sym written_is)
 
-        exact : length bytes ≡ 4 + 6 * type_count bytes + 16 * record_count bytes
-        exact = omega (arith, last_back.length_back, last_back.type_count_back, last_back.record_count_back)
-
-        start_before : start ≤ a.written
-        start_before = omega (arith, start_is, exact, written_is)
-
-        part_is : take (a.written - start) (drop start out') ≡ take (length bytes - start) (drop start bytes)
-        part_is =
-            let rest = drop (length bytes) out in
-            ap₂ (λ w o. take (w - start) (drop start o)) written_is accepted_run.output
-            ∙ ap (take (length bytes - start)) (drop-append-le start bytes rest (omega (arith, start_before, written_is)))
-            ∙ take-append-le (length bytes - start) (drop start bytes) rest (omega (arith, length-drop start bytes))
-
-        part_records : records_in (take (a.written - start) (drop start out')) ≡ records_of bytes
-        part_records = ap records_in part_is ∙ sym (program_records_slice bytes exact start start_is)
-
-        pub run_listed : Listed p fuel a out' start
-        run_listed = record {
-          ending = rw (ap (λ x. x.ending) accepted_run.answer) (ending_range (program_course p fuel).ending);
-          from = start_before;
-          to = omega (arith, written_is, ap length accepted_run.output, length-append bytes (drop (length bytes) out));
-          few = omega (arith, ap length part_records, ap length last_back.records_back, length_laid 1 0 last, last_small first_edition (omega arith) p m fuel);
-          text = ap (accepted_text a.ending a.steps a.root_type) part_records ∙ (rw (eq-eqb a.number 0 z) at text_is);
-        }
+      pub run_listed : Listed p fuel a out'
+      run_listed = record {
+        ending = rw (ap (λ x. x.ending) accepted_run.answer) (ending_range (program_course p fuel).ending);
+        to = omega (arith, written_is, ap length accepted_run.output, length-append bytes (drop (length bytes) out));
+        laid_out = rw front_is (record { exact = exact });
+        few = rw front_is (omega (arith, ap length last_back.records_back, length_laid 1 0 last, last_small first_edition (omega arith) p m fuel));
+        text = rw front_is (rw (eq-eqb a.number 0 z) at text_is);
+      }

@@ -1,14 +1,16 @@
 -- The listing of an input by its three texts: `showing` for search.
-use Prim.Native.Nat.{ℕ, ◌+◌, ◌*◌, ◌-◌, ◌≤◌, ◌<◌}
+use Prim.Native.Nat.{ℕ, ◌-◌, ◌≤◌, ◌<◌}
 use native.Mathlib.Omega.{arith}
 use mathlib.Core.List.{List}
-use mathlib.Core.Path.{◌≡◌, subst, ap₂, ◌∙◌}
+use mathlib.Core.Path.{◌≡◌, sym, subst, ap, ap₂, ◌∙◌}
 use lib.ListN.{length, take, drop, length-drop}
-use lib.Seq.{take_all}
+use lib.Seq.{length-take-le, take_all}
 use borrow.Author.Tests.{lt-ltb, le-ltb}
-use Rattle.rules.specs.Format.{u16, u32}
+use Rattle.rules.specs.Format.{u32}
 use Rattle.rules.specs.Refusals.{program_short}
 use Rattle.records.specs.View.{records_in}
+use Rattle.parts.specs.declared.Parts.{Parts}
+use Rattle.parts.specs.Layout.{IsLaidOut, ArePartsOf}
 use Rattle.run_call.specs.declared.RunAnswer.{RunAnswer}
 use Rattle.run_call.specs.Answers.{Ran}
 use Rattle.listing_text.specs.Text.{refused_text, accepted_text}
@@ -37,23 +39,31 @@ module _ (out work text : List ℕ) (lent : Lent out work text) (input : List �
     shows_refusal z h = subst (λ s. Prints text s text' n)
         (run_refused (rest input) fuel out work lent.output_long lent.work_long a out' work' ran z ∙ run_listing input fuel l e) h
 
-  module _ (z : a.number ≡ 0) (T : ℕ) (eT : T ≡ u16 out' 0) where
-    listed : Listed (rest input) fuel a out' (4 + 6 * T)
-    listed = run_listed (rest input) fuel out work lent.output_long lent.work_long a out' work' ran z T eT
-
-    pub shows_from : 4 + 6 * T ≤ a.written
-    shows_from = listed.from
+  module _ (z : a.number ≡ 0) where
+    listed : Listed (rest input) fuel a out'
+    listed = run_listed (rest input) fuel out work lent.output_long lent.work_long a out' work' ran z
 
     pub shows_to : a.written ≤ length out'
     shows_to = listed.to
 
-    abbrev part : List ℕ
-    part = take (a.written - (4 + 6 * T)) (drop (4 + 6 * T) out')
+    pub shows_long : a.written ≡ length (take a.written out')
+    shows_long = sym (length-take-le a.written out' listed.to)
 
-    pub shows_records : Listable a.ending (records_in part) text
-    shows_records = record { some = listed.ending.0; known = listed.ending.1; few = listed.few; room = omega (arith, listed.few, lent.text_long) }
+    pub shows_laid_out : IsLaidOut (take a.written out')
+    shows_laid_out = listed.laid_out
 
-    pub shows_run : 4 ≤ length input → fuel ≡ u32 input 0 → (text' : List ℕ) (n : ℕ) → Prints text (accepted_text a.ending a.steps a.root_type (records_in part)) text' n → Prints text (listing_of input) text' n
-    shows_run l e text' n h = subst (λ s. Prints text s text' n) (listed.text ∙ run_listing input fuel l e) h
+    module _ (parts : Parts) (of : ArePartsOf (take a.written out') parts) where
+      pub shows_records : Listable a.ending (records_in parts.records.now) text
+      shows_records = record {
+        some = listed.ending.0;
+        known = listed.ending.1;
+        few = rw of.records_are listed.few;
+        room = omega (arith, ap length of.records_are, listed.few, lent.text_long);
+      }
 
-pub ruleset showing = (fuel_short, shows_refusal, shows_from, shows_to, shows_records, shows_run)
+      pub shows_run : 4 ≤ length input → fuel ≡ u32 input 0 → (text' : List ℕ) (n : ℕ)
+          → Prints text (accepted_text a.ending a.steps a.root_type (records_in parts.records.now)) text' n → Prints text (listing_of input) text' n
+      shows_run l e text' n h = subst (λ s. Prints text s text' n)
+          (ap (accepted_text a.ending a.steps a.root_type) of.records_are ∙ listed.text ∙ run_listing input fuel l e) h
+
+pub ruleset showing = (fuel_short, shows_refusal, shows_to, shows_long, shows_laid_out, shows_records, shows_run)

@@ -24,14 +24,13 @@ fn listing_by(input: &[u8], output: &mut [u8], work: &mut [u8], text: &mut [u8])
     if number != 0 {
         return listing_text::refused_text(number, answer.place, text);
     }
-    let types = records::get16(output, 0);
-    let start = 4 + 6 * (types as usize);
     let end = answer.written as usize;
+    let parts = parts::parts_of(&output[..end]);
     listing_text::accepted_text(
         answer.ending,
         answer.steps,
         answer.root_type,
-        &output[start..end],
+        parts.records,
         text,
     )
 }

@@ -1,13 +1,12 @@
 -- `run_program`: a passed program from its bytes to the bytes that are written. `running_programs` for search.
-use Prim.Native.Nat.{ℕ, ◌*◌}
+use Prim.Native.Nat.{ℕ}
 use native.Mathlib.Omega.{arith}
 use mathlib.Core.List.{List, []}
-use mathlib.Core.Path.{◌≡◌, sym, ◌∙◌}
-use lib.ListN.{length, drop, length-take, length-drop}
+use mathlib.Core.Path.{sym, ◌∙◌}
 use Rattle.rules.specs.Editions.{Edition}
 use Rattle.rules.specs.Terms.{Term}
 use Rattle.rules.specs.FieldUses.{given}
-use Rattle.rules.specs.Format.{Record, type_count, table_of}
+use Rattle.rules.specs.Format.{Record, table_of}
 use Rattle.rules.specs.Links.{root_tree}
 use Rattle.rules.specs.Typing.{Typed}
 use Rattle.rules.specs.Meets.{Meets}
