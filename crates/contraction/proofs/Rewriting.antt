@@ -12,7 +12,7 @@ use Rattle.rules.specs.Kinds.{number, function, fix, lift, quote, splice, applic
 use Rattle.rules.specs.Terms.{Term, leaf, unary, root_kind, size}
 use Rattle.rules.specs.Indices.{replaced, gave_way}
 use Rattle.rules.specs.Types.{Table}
-use Rattle.rules.specs.Contractions.{StepRule, on_application, on_fix, on_lift, on_splice, rule_number, Contraction, apply, unroll, lifted, spliced, succeeds, fails}
+use Rattle.rules.specs.Contractions.{StepRule, on_application, on_fix, on_lift, on_splice, Contraction, apply, unroll, lifted, spliced, succeeds, fails}
 use Rattle.rules.specs.Format.{Record, no_record}
 use Rattle.rules.proofs.FreeBounds.{typed_bound}
 use Rattle.rules.proofs.KindTable.{kind_back}
@@ -31,6 +31,8 @@ use Rattle.terms.proofs.Trees.{at_first, at_head, at_within}
 use Rattle.substitution.specs.declared.arguments.Argument.TheVariants.{Quote}
 use Rattle.contraction.specs.declared.plans.Plan.{Plan}
 use Rattle.contraction.specs.declared.plans.Plan.TheVariants.{Tree, Made}
+use Rattle.contraction.specs.declared.rule.Rule.TheVariants.{Application as ByApplication, Fix as ByFix, Lift as ByLift, Splice as BySplice}
+use Rattle.contraction.specs.Naming.{rule_named}
 use Rattle.contraction.specs.Plans.{Planned, itself, anew, PlansTree}
 use Rattle.contraction.specs.Redexes.{RedexAt, HasRedex, PlansRedex, CanPlanWhole, TellsRule, PlansWhole}
 use Rattle.contraction.proofs.Places.{Before, before_has, only_child, first_of_two, second_of_two}
@@ -192,21 +194,21 @@ module _ (rs : List Record) (s : ℕ) where
         is = λ types lo hi end rule n u h z. plans.is types lo hi end n u (subst (λ r. RedexAt types rs s lo r n u) (rule_is h z) h);
       }
 
-      rule_told : TellsRule rs s (rule_number r)
-      rule_told = record { is = λ types lo rule n u h z. ap rule_number (sym (rule_is h z)) }
+      rule_told : TellsRule rs s (rule_named r)
+      rule_told = record { is = λ types lo rule n u h z. ap rule_named (sym (rule_is h z)) }
 
     module _ (a : k ≡ Application → ⊥) (b : k ≡ Fix → ⊥) (c : k ≡ Lift → ⊥) where
       only_left : {types : Table} {lo n : ℕ} {rule : StepRule} {u : Term} (h : RedexAt types rs s lo rule n u) → kind_number (root_kind h.redex) < 9 → rule ≡ on_splice
       only_left {rule = rule} h z = only_splice k rule (rule_read h) (low_kind h z) a b c
 
-      pub splice_told : TellsRule rs s 4
-      splice_told = record { is = λ types lo rule n u h z. ap rule_number (sym (only_left h z)) }
+      pub splice_told : TellsRule rs s BySplice
+      splice_told = record { is = λ types lo rule n u h z. ap rule_named (sym (only_left h z)) }
 
       pub splice_left : PlansWhole rs s (Tree (s + 2) 0)
       splice_left = record { is = λ types lo hi end rule n u h z. (splice_plans rs s).is types lo hi end n u (subst (λ r. RedexAt types rs s lo r n u) (only_left h z) h) }
 
   module _ (e : KindIs rs s Application) where
-    pub application_told : TellsRule rs s 1
+    pub application_told : TellsRule rs s ByApplication
     application_told = rule_told Application e on_application refl
 
     pub application_there : CanPlanWhole rs s → HasRedex rs s on_application
@@ -216,7 +218,7 @@ module _ (rs : List Record) (s : ℕ) where
     application_planned = redex_planned Application e on_application refl
 
   module _ (e : KindIs rs s Fix) where
-    pub fix_told : TellsRule rs s 2
+    pub fix_told : TellsRule rs s ByFix
     fix_told = rule_told Fix e on_fix refl
 
     pub fix_there : CanPlanWhole rs s → HasRedex rs s on_fix
@@ -226,7 +228,7 @@ module _ (rs : List Record) (s : ℕ) where
     fix_planned = redex_planned Fix e on_fix refl
 
   module _ (e : KindIs rs s Lift) where
-    pub lift_told : TellsRule rs s 3
+    pub lift_told : TellsRule rs s ByLift
     lift_told = rule_told Lift e on_lift refl
 
     pub lift_there : CanPlanWhole rs s → HasRedex rs s on_lift

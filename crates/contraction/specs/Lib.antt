@@ -1,4 +1,5 @@
 -- Contraction: what a redex becomes.
 pub mod Plans
+pub mod Naming
 pub mod Redexes
 pub mod Making

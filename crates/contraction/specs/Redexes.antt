@@ -4,11 +4,13 @@ use Rattle.rules.specs.Kinds.{kind_number}
 use Rattle.rules.specs.Terms.{Term, root_kind, size}
 use Rattle.rules.specs.Types.{Table}
 use Rattle.rules.specs.Typing.{Env, Typed}
-use Rattle.rules.specs.Contractions.{StepRule, rule_number, Contraction}
+use Rattle.rules.specs.Contractions.{StepRule, Contraction}
 use Rattle.rules.specs.Format.{Record}
 use Rattle.terms.specs.Preorder.{At}
 use Rattle.contraction.specs.declared.plans.Plan.{Plan}
+use Rattle.contraction.specs.declared.rule.Rule.{Rule}
 use Rattle.contraction.specs.Plans.{Planned}
+use Rattle.contraction.specs.Naming.{rule_named}
 
 -- A redex stands at s, before lo. It is typed under few binders, this rule rewrites it to u, and n variables give way.
 pub record RedexAt (types : Table) (rs : List Record) (s lo : ℕ) (rule : StepRule) (n : ℕ) (u : Term) : Type 0 where
@@ -38,9 +40,9 @@ pub record CanPlanWhole (rs : List Record) (s : ℕ) : Type 0 where
   pub has : HasRedex rs s rule
   pub whole : kind_number (root_kind has.found.redex) < 9
 
--- i is the number of its rule.
-pub record TellsRule (rs : List Record) (s i : ℕ) : Type 0 where
-  pub is : (types : Table) (lo : ℕ) (rule : StepRule) (n : ℕ) (u : Term) (h : RedexAt types rs s lo rule n u) → kind_number (root_kind h.redex) < 9 → i ≡ rule_number rule
+-- r is its rule.
+pub record TellsRule (rs : List Record) (s : ℕ) (r : Rule) : Type 0 where
+  pub is : (types : Table) (lo : ℕ) (rule : StepRule) (n : ℕ) (u : Term) (h : RedexAt types rs s lo rule n u) → kind_number (root_kind h.redex) < 9 → r ≡ rule_named rule
 
 pub record PlansWhole (rs : List Record) (s : ℕ) (plan : Plan) : Type 0 where
   pub is : (types : Table) (lo hi end : ℕ) (rule : StepRule) (n : ℕ) (u : Term) (h : RedexAt types rs s lo rule n u) → kind_number (root_kind h.redex) < 9

@@ -5,6 +5,7 @@ ghost use Rattle.contraction.specs.Redexes.{HasRedex, PlansRedex, CanPlanWhole, 
 
 use crate::bodies::body_with_tree;
 use crate::plans::Plan;
+use crate::rule::Rule;
 use kinds::Kind;
 use substitution::Argument;
 
@@ -35,16 +36,16 @@ fn lift(w: &[u8], s: usize) -> Plan
     Plan::Made(Argument::Quote(s + 1, r.ty))
 }
 
-// The number of the rule that rewrites the redex at `s`, by its kind: "1 application, 2 fix, 3 lift, 4 splice".
-pub fn whole_rule(w: &[u8], s: usize) -> u16
+// The rule that rewrites the redex at `s`, by its kind: "1 application, 2 fix, 3 lift, 4 splice".
+pub fn whole_rule(w: &[u8], s: usize) -> Rule
     requires { CanPlanWhole (records_in w.now) s }
     ensures { TellsRule (records_in w.now) s result }
 {
     match terms::root_kind(w, s) {
-        Kind::Application => 1,
-        Kind::Fix => 2,
-        Kind::Lift => 3,
-        _ => 4,
+        Kind::Application => Rule::Application,
+        Kind::Fix => Rule::Fix,
+        Kind::Lift => Rule::Lift,
+        _ => Rule::Splice,
     }
 }
 

@@ -1,5 +1,5 @@
 -- `match_rule` and `plan_match`: a law for each thing that their bodies ask. `ruling` and `outcomes` for search.
-use Prim.Native.Nat.{ℕ, ◌+◌, ◌-◌, ◌*◌, ◌%◌, ◌≤◌}
+use Prim.Native.Nat.{ℕ, ◌+◌}
 use native.Mathlib.Omega.{arith}
 use mathlib.Core.List.{List}
 use mathlib.Core.Bool.{Bool, true, false}
@@ -7,17 +7,16 @@ use mathlib.Core.Logic.{inr}
 use mathlib.Core.Option.{Option, none, some}
 use mathlib.Core.Path.{◌≡◌, refl, ap, sym, subst, ◌∙◌}
 use lib.ListN.{length}
-use Rattle.rules.specs.Kinds.{quote, Match, match, ternary₃, kind_number, kind_of}
+use Rattle.rules.specs.Kinds.{quote, Match, match_variable, match_shape, match_number, match_application, match_lift, match_function, match_fix, match, ternary₃, kind_of}
 use Rattle.rules.specs.Terms.{Fields, Term, unary, ternary, size}
 use Rattle.rules.specs.Indices.{replaced, gave_way}
 use Rattle.rules.specs.Types.{Table}
 use Rattle.rules.specs.Typing.{Typed}
 use Rattle.rules.specs.Matching.{matched}
-use Rattle.rules.specs.Contractions.{StepRule, on_success, on_failure, success_number, rule_number, Contraction, succeeds, fails}
+use Rattle.rules.specs.Contractions.{StepRule, on_success, on_failure, Contraction, succeeds, fails}
 use Rattle.rules.specs.Format.{Record}
 use Rattle.rules.proofs.FreeBounds.{typed_bound}
 use Rattle.rules.proofs.KindTable.{kind_back}
-use Rattle.rules.proofs.RuleKinds.{match_range, success_number_lem}
 use Rattle.kinds.specs.Named.{kind_meant}
 use Rattle.kinds.specs.declared.names.Kind.{Kind}
 use Rattle.terms.specs.Preorder.{HasTree, Skips}
@@ -26,8 +25,21 @@ use Rattle.terms.specs.Measuring.{Low, KindIs}
 use Rattle.terms.proofs.Low.{low_kids}
 use Rattle.contraction.specs.declared.plans.Plan.{Plan}
 use Rattle.contraction.specs.declared.plans.Plan.TheVariants.{Tree}
+use Rattle.contraction.specs.declared.rule.Rule.{Rule}
+use Rattle.contraction.specs.declared.rule.Rule.TheVariants.{Success, Failure}
 use Rattle.contraction.specs.Plans.{Planned, itself}
+use Rattle.contraction.specs.Naming.{match_named, rule_named}
+use Rattle.matching.proofs.Candidates.{named_once}
 use Rattle.matching.specs.Matches.{OpenMatch, HasMatch, TellsMatchRule, CanPlanMatch, PlansMatch, MatchRedex, taken, is_some, CodeAt, HasCode, TellsMatch, CanSucceed, SuccessAt, PlansSuccess}
+
+-- The name of a match's kind stands for that kind.
+named_meant : (k : Match) → kind_meant (match_named k) ≡ ternary₃ (match k)
+named_meant match_variable = refl
+named_meant (match_shape match_number) = refl
+named_meant (match_shape match_application) = refl
+named_meant (match_shape match_lift) = refl
+named_meant (match_shape match_function) = refl
+named_meant (match_shape match_fix) = refl
 
 -- What a match becomes, by what it takes: its success, or its failure.
 data Becomes (k : Match) (s e : Term) : Option (List Term) → StepRule → ℕ → Term → Type 0 where
@@ -79,72 +91,63 @@ module _ (types : Table) (rs : List Record) (p hi : ℕ) where
   pub code_there : HasMatch types rs p hi → HasCode types rs p
   code_there v = record { lo = v.lo; found = redex_of v.found; there = code_held v.found }
 
-  module _ (q : Kind) (kind : KindIs rs p q) (k : ℕ) (o : k ≡ kind_number (kind_meant q)) where
-    number_read : {lo end n : ℕ} {u : Term} (h : OpenMatch types rs p lo hi end n u) → k ≡ kind_number (ternary₃ (match h.kind))
-    number_read h = o ∙ ap kind_number (kind.is ∙ ap kind_of h.kind_held ∙ kind_back (ternary₃ (match h.kind)))
+  -- The name of its kind.
+  kind_read : (q : Kind) → KindIs rs p q → {lo end n : ℕ} {u : Term} (h : OpenMatch types rs p lo hi end n u) → q ≡ match_named h.kind
+  kind_read q kind h =
+      named_once q (match_named h.kind) (kind.is ∙ ap kind_of h.kind_held ∙ kind_back (ternary₃ (match h.kind)) ∙ sym (named_meant h.kind))
 
-    number_of : {lo end n : ℕ} {u : Term} (h : OpenMatch types rs p lo hi end n u) → (success_number h.kind + 13 ≡ 2 * k) × (k ≤ 14)
-    number_of h = let r = match_range h.kind in (omega (arith, success_number_lem h.kind, number_read h), omega (arith, number_read h))
+  module _ (q : Kind) (kind : KindIs rs p q) (b : Bool) (tells : TellsMatch types rs p b) where
+    told : {lo end n : ℕ} {u : Term} (h : OpenMatch types rs p lo hi end n u) → b ≡ is_some (taken types (redex_of h))
+    told {lo} h = tells.is lo (redex_of h) (code_held h)
 
-    pub rule_from : HasMatch types rs p hi → 13 ≤ 2 * k
-    rule_from v = omega (arith, number_of v.found)
+    pub success_told : b ≡ true → TellsMatchRule types rs p hi (Success q)
+    success_told y = record { is = λ lo end n u h. go h (quoted_of h).becomes (sym y ∙ told h) }
+      where
+        go : {lo end n : ℕ} {u : Term} (h : OpenMatch types rs p lo hi end n u) {o : Option (List Term)} {r : StepRule} {i : ℕ} {t : Term} → Becomes h.kind h.success h.failure o r i t
+            → true ≡ is_some o → Success q ≡ rule_named r
+        go h (succeeded ts) z = ap Success (kind_read q kind h)
+        go h failed z = cc
 
-    module _ (b : Bool) (tells : TellsMatch types rs p b) where
-      told : {lo end n : ℕ} {u : Term} (h : OpenMatch types rs p lo hi end n u) → b ≡ is_some (taken types (redex_of h))
-      told {lo} h = tells.is lo (redex_of h) (code_held h)
+    pub failure_told : b ≡ false → TellsMatchRule types rs p hi (Failure q)
+    failure_told y = record { is = λ lo end n u h. go h (quoted_of h).becomes (sym y ∙ told h) }
+      where
+        go : {lo end n : ℕ} {u : Term} (h : OpenMatch types rs p lo hi end n u) {o : Option (List Term)} {r : StepRule} {i : ℕ} {t : Term} → Becomes h.kind h.success h.failure o r i t
+            → false ≡ is_some o → Failure q ≡ rule_named r
+        go h (succeeded ts) z = cc
+        go h failed z = ap Failure (kind_read q kind h)
 
-      pub success_told : b ≡ true → TellsMatchRule types rs p hi (2 * k - 13)
-      success_told y = record { is = λ lo end n u h. go h (quoted_of h).becomes (sym y ∙ told h) }
-        where
-          go : {lo end n : ℕ} {u : Term} (h : OpenMatch types rs p lo hi end n u) {o : Option (List Term)} {r : StepRule} {i : ℕ} {t : Term} → Becomes h.kind h.success h.failure o r i t
-              → true ≡ is_some o → 2 * k - 13 ≡ rule_number r
-          go h (succeeded ts) z = omega (arith, number_of h)
-          go h failed z = let z : ◌≡◌ {A = ℕ} 0 1 = cc in absurd (omega arith)
+pub ruleset ruling = (code_there, success_told, failure_told)
 
-      pub failure_told : b ≡ false → TellsMatchRule types rs p hi (2 * k - 13 + 1)
-      failure_told y = record { is = λ lo end n u h. go h (quoted_of h).becomes (sym y ∙ told h) }
-        where
-          go : {lo end n : ℕ} {u : Term} (h : OpenMatch types rs p lo hi end n u) {o : Option (List Term)} {r : StepRule} {i : ℕ} {t : Term} → Becomes h.kind h.success h.failure o r i t
-              → false ≡ is_some o → 2 * k - 13 + 1 ≡ rule_number r
-          go h (succeeded ts) z = let z : ◌≡◌ {A = ℕ} 0 1 = cc in absurd (omega arith)
-          go h failed z = omega (arith, number_of h)
-
-pub ruleset ruling = (code_there, rule_from, success_told, failure_told)
-
--- "5 to 16 .., success before failure": success has the odd numbers.
-odd_number : (k : Match) → (m : ℕ) × (success_number k ≡ 2 * m + 1)
-odd_number k = (kind_number (ternary₃ (match k)) - 7, omega (arith, success_number_lem k, match_range k))
-
-module _ (types : Table) (rs : List Record) (p hi i : ℕ) where
-  pub success_tree : CanPlanMatch types rs p hi i → HasTree rs hi
+module _ (types : Table) (rs : List Record) (p hi : ℕ) (rule : Rule) where
+  pub success_tree : CanPlanMatch types rs p hi rule → HasTree rs hi
   success_tree v = record { tree = v.has.found.success; there = v.has.found.success_there }
 
-  module _ (odd : i % 2 ≡ 1) where
-    -- A rule with an odd number is one of success.
-    succeeding : {k : Match} {s e : Term} {o : Option (List Term)} {r : StepRule} {n : ℕ} {u : Term} → Becomes k s e o r n u → i ≡ rule_number r → (P : Option (List Term) → ℕ → Term → Type 0)
+  module _ (k : Kind) (by : rule ≡ Success k) where
+    -- Under a rule of success a match succeeds.
+    succeeding : {k : Match} {s e : Term} {o : Option (List Term)} {r : StepRule} {n : ℕ} {u : Term} → Becomes k s e o r n u → rule ≡ rule_named r → (P : Option (List Term) → ℕ → Term → Type 0)
         → ((ts : List Term) → P (some ts) (gave_way (length ts) 0 s) (replaced ts s)) → P o n u
     succeeding (succeeded ts) e P h = h ts
-    succeeding {k} failed e P h = absurd (omega (arith, odd_number k))
+    succeeding failed e P h = let z : ⊥ = cc in absurd z
 
-    pub can_succeed : CanPlanMatch types rs p hi i → CanSucceed types rs p hi
+    pub can_succeed : CanPlanMatch types rs p hi rule → CanSucceed types rs p hi
     can_succeed v =
         let h = v.has.found in
-        succeeding (quoted_of types rs p hi h).becomes v.number (λ o n u. taken types (redex_of types rs p hi h) ≡ o → CanSucceed types rs p hi)
+        succeeding (quoted_of types rs p hi h).becomes v.ruled (λ o n u. taken types (redex_of types rs p hi h) ≡ o → CanSucceed types rs p hi)
         (λ ts e. record { lo = v.has.lo; end = v.has.end; found = redex_of types rs p hi h; bound = ts; success = h.success; there = success_held types rs p hi h ts e }) refl
 
-    pub match_succeeds : (q : Plan) → PlansSuccess types rs p hi q → PlansMatch types rs p hi i q
+    pub match_succeeds : (q : Plan) → PlansSuccess types rs p hi q → PlansMatch types rs p hi rule q
     match_succeeds q plans = record {
       is = λ lo end n u h e.
           succeeding (quoted_of types rs p hi h).becomes e (λ o n u. taken types (redex_of types rs p hi h) ≡ o → Planned rs lo hi end q n u)
           (λ ts e. plans.is lo end (redex_of types rs p hi h) ts h.success (success_held types rs p hi h ts e)) refl;
     }
 
-  pub match_fails : (e : ℕ) → (i % 2 ≡ 1 → ⊥) → Skips rs hi e → PlansMatch types rs p hi i (Tree e 0)
-  match_fails e even k = record { is = λ lo end n u h z. go h (quoted_of types rs p hi h).becomes z }
+  pub match_fails : (e : ℕ) → ((k : Kind) → rule ≡ Success k → ⊥) → Skips rs hi e → PlansMatch types rs p hi rule (Tree e 0)
+  match_fails e other k = record { is = λ lo end n u h z. go h (quoted_of types rs p hi h).becomes z }
     where
       go : {lo end n : ℕ} {u : Term} (h : OpenMatch types rs p lo hi end n u) {o : Option (List Term)} {r : StepRule} {j : ℕ} {t : Term} → Becomes h.kind h.success h.failure o r j t
-          → i ≡ rule_number r → Planned rs lo hi end (Tree e 0) j t
-      go h (succeeded ts) z = absurd (even (let m = odd_number h.kind in omega arith))
+          → rule ≡ rule_named r → Planned rs lo hi end (Tree e 0) j t
+      go h (succeeded ts) z = absurd (other (match_named h.kind) z)
       go h failed z =
           let a = k.is h.success h.success_there in
           rw a (itself (hi + size h.success) 0 h.failure h.failure_there (inr (omega arith, omega (arith, h.upto))))

@@ -9,14 +9,16 @@ use Rattle.rules.specs.Typing.{Env, Typed}
 use Rattle.rules.specs.Conditions.{Holds}
 use Rattle.rules.specs.FieldUses.{formed}
 use Rattle.rules.specs.Matching.{matched}
-use Rattle.rules.specs.Contractions.{StepRule, rule_number, Contraction}
+use Rattle.rules.specs.Contractions.{StepRule, Contraction}
 use Rattle.rules.specs.Format.{Record, no_record}
 use Rattle.terms.specs.Preorder.{At}
 use Rattle.terms.specs.Measuring.{Low}
 use Rattle.substitution.specs.declared.arguments.Argument.{Argument}
 use Rattle.substitution.specs.declared.arguments.Argument.TheVariants.{Opened}
 use Rattle.contraction.specs.declared.plans.Plan.{Plan}
+use Rattle.contraction.specs.declared.rule.Rule.{Rule}
 use Rattle.contraction.specs.Plans.{Planned}
+use Rattle.contraction.specs.Naming.{rule_named}
 
 -- A match is open at p: the record there has its kind and its fields, and its code stands behind that, before lo. Its success stands at hi, and its
 -- failure after that and before `end`. It is typed under few binders, it is rewritten to u, and n variables give way.
@@ -40,7 +42,7 @@ pub record OpenMatch (types : Table) (rs : List Record) (p lo hi end n : ℕ) (u
   pub failure_there : At rs (hi + size success) failure
   pub upto : hi + size success + size failure ≤ end
 
--- There is such a match; i is the number of the rule of every one.
+-- There is such a match; r is the rule of every one.
 pub record HasMatch (types : Table) (rs : List Record) (p hi : ℕ) : Type 0 where
   pub lo : ℕ
   pub end : ℕ
@@ -48,16 +50,16 @@ pub record HasMatch (types : Table) (rs : List Record) (p hi : ℕ) : Type 0 whe
   pub contractum : Term
   pub found : OpenMatch types rs p lo hi end replaced contractum
 
-pub record TellsMatchRule (types : Table) (rs : List Record) (p hi i : ℕ) : Type 0 where
-  pub is : (lo end n : ℕ) (u : Term) (h : OpenMatch types rs p lo hi end n u) → i ≡ rule_number h.rule
+pub record TellsMatchRule (types : Table) (rs : List Record) (p hi : ℕ) (r : Rule) : Type 0 where
+  pub is : (lo end n : ℕ) (u : Term) (h : OpenMatch types rs p lo hi end n u) → r ≡ rule_named h.rule
 
--- There is one by the rule of number i; the plan is right of every one by that rule.
-pub record CanPlanMatch (types : Table) (rs : List Record) (p hi i : ℕ) : Type 0 where
+-- There is one by the rule r; the plan is right of every one by that rule.
+pub record CanPlanMatch (types : Table) (rs : List Record) (p hi : ℕ) (r : Rule) : Type 0 where
   pub has : HasMatch types rs p hi
-  pub number : i ≡ rule_number has.found.rule
+  pub ruled : r ≡ rule_named has.found.rule
 
-pub record PlansMatch (types : Table) (rs : List Record) (p hi i : ℕ) (plan : Plan) : Type 0 where
-  pub is : (lo end n : ℕ) (u : Term) (h : OpenMatch types rs p lo hi end n u) → i ≡ rule_number h.rule → Planned rs lo hi end plan n u
+pub record PlansMatch (types : Table) (rs : List Record) (p hi : ℕ) (r : Rule) (plan : Plan) : Type 0 where
+  pub is : (lo end n : ℕ) (u : Term) (h : OpenMatch types rs p lo hi end n u) → r ≡ rule_named h.rule → Planned rs lo hi end plan n u
 
 -- A match with its code, which is quoted.
 pub record MatchRedex : Type 0 where

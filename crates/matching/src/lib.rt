@@ -5,7 +5,7 @@ ghost use Rattle.records.specs.View.{entries_in, records_in};
 ghost use Rattle.records.specs.Places.{Within};
 ghost use Rattle.matching.specs.Matches.{IsOpened, HasApplication, SecondType, HasCode, TellsMatch, CanSucceed, PlansSuccess, HasMatch, TellsMatchRule, CanPlanMatch, PlansMatch};
 
-use contraction::{Plan, body_with, body_with_one, body_with_tree};
+use contraction::{Plan, Rule, body_with, body_with_one, body_with_tree};
 use kinds::Kind;
 use substitution::{Argument, Arguments};
 
@@ -75,23 +75,26 @@ fn success(table: &[u8], w: &[u8], p: usize, s: usize) -> Plan
     }
 }
 
-// The number of the rule that rewrites the match at `p`, whose success is at `s`: "5 to 16 the kinds 9 to 14, success before failure".
-pub fn match_rule(table: &[u8], w: &[u8], p: usize, s: usize) -> u16
+// The rule that rewrites the match at `p`, whose success is at `s`: that of its kind's success, or of its failure.
+pub fn match_rule(table: &[u8], w: &[u8], p: usize, s: usize) -> Rule
     requires { HasMatch (entries_in table.now) (records_in w.now) p s }
     ensures { TellsMatchRule (entries_in table.now) (records_in w.now) p s result }
 {
-    let rule = 2 * terms::root_kind(w, p).number() - 13;
-    if matches(table, w, p) { rule } else { rule + 1 }
+    let kind = terms::root_kind(w, p);
+    if matches(table, w, p) {
+        Rule::Success(kind)
+    } else {
+        Rule::Failure(kind)
+    }
 }
 
-// "A match becomes success, with its variables replaced, or failure." Its record is at `p`, its success at `s`. The rules of success are the odd ones.
-pub fn plan_match(table: &[u8], w: &[u8], p: usize, s: usize, rule: u16) -> Plan
+// "A match becomes success, with its variables replaced, or failure." Its record is at `p`, its success at `s`.
+pub fn plan_match(table: &[u8], w: &[u8], p: usize, s: usize, rule: Rule) -> Plan
     requires { CanPlanMatch (entries_in table.now) (records_in w.now) p s rule }
     ensures { PlansMatch (entries_in table.now) (records_in w.now) p s rule result }
 {
-    if rule % 2 == 1 {
-        success(table, w, p, s)
-    } else {
-        Plan::Tree(terms::skip(w, s), 0)
+    match rule {
+        Rule::Success(_) => success(table, w, p, s),
+        _ => Plan::Tree(terms::skip(w, s), 0),
     }
 }

@@ -21,6 +21,7 @@ use Rattle.zipper.specs.Moving.{IsHole, Drops}
 use Rattle.navigation.specs.Ascending.{Held}
 use Rattle.zipper.proofs.Places.{laid_few, at_start, frame_read, next_ones}
 use Rattle.contraction.specs.declared.plans.Plan.{Plan}
+use Rattle.contraction.specs.declared.rule.Rule.{Rule}
 use Rattle.contraction.specs.Redexes.{RedexAt, CanPlanWhole, TellsRule, PlansWhole}
 use Rattle.matching.specs.Matches.{OpenMatch, HasMatch, TellsMatchRule, PlansMatch}
 use Rattle.steps.specs.declared.state.State.{State}
@@ -71,10 +72,10 @@ module _ (types : Table) (rs : List Record) (z : Focus) (level : ℕ) (C : Conte
     whole = few_children (root_kind t) n;
   }
 
-  pub whole_contracting : (s : State) → Runs types rs s whole → NoTwins types → child_count (root_kind t) ≤ 2 → (i : ℕ) → TellsRule rs z.s i → (plan : Plan) → PlansWhole rs z.s plan
-      → (hole : Ahead) → IsHole z level hole → Contracting types rs s (record { rule = i; plan = plan; free = z.l; hole = hole }) whole
+  pub whole_contracting : (s : State) → Runs types rs s whole → NoTwins types → child_count (root_kind t) ≤ 2 → (rule : Rule) → TellsRule rs z.s rule → (plan : Plan) → PlansWhole rs z.s plan
+      → (hole : Ahead) → IsHole z level hole → Contracting types rs s (record { rule = rule; plan = plan; free = z.l; hole = hole }) whole
   unfolding whole_at becomes
-  whole_contracting s runs unlike n i g plan p hole o = rw o.is (record {
+  whole_contracting s runs unlike n rule g plan p hole o = rw o.is (record {
     runs = runs;
     context = C;
     contractum = made.term;
@@ -143,10 +144,10 @@ module _ (types : Table) (rs : List Record) (z : Focus) (m : Match) (f : Fields)
     found = open_at (z.r + size v + size e) refl;
   }
 
-  pub open_contracting : (s : State) → Runs types rs s whole → NoTwins types → (i : ℕ) → TellsMatchRule types rs z.top z.r i → (plan : Plan) → PlansMatch types rs z.top z.r i plan
-      → (hole : Ahead) → Drops rs z hole → Contracting types rs s (record { rule = i; plan = plan; free = z.l; hole = hole }) whole
+  pub open_contracting : (s : State) → Runs types rs s whole → NoTwins types → (rule : Rule) → TellsMatchRule types rs z.top z.r rule → (plan : Plan) → PlansMatch types rs z.top z.r rule plan
+      → (hole : Ahead) → Drops rs z hole → Contracting types rs s (record { rule = rule; plan = plan; free = z.l; hole = hole }) whole
   unfolding becomes open_at
-  open_contracting s runs unlike i b plan p hole d =
+  open_contracting s runs unlike rule b plan p hole d =
       let g = d.end (match m) f v e C q h.laid in
       let start = at_start rs _ C z.s z.r z.top h.laid.around in
       let ruled = b.is z.l hole.r chosen.event.replaced chosen.term (open_at hole.r g) in

@@ -18,6 +18,7 @@ use Rattle.navigation.specs.declared.ascending.Turn.TheVariants.{Next, Value, Re
 use Rattle.zipper.specs.Moving.{IsHole, HasMatch, Drops}
 use Rattle.navigation.specs.Ascending.{Sought, redex, matched}
 use Rattle.contraction.specs.declared.plans.Plan.{Plan}
+use Rattle.contraction.specs.declared.rule.Rule.{Rule}
 use Rattle.contraction.specs.Redexes.{CanPlanWhole, TellsRule, PlansWhole}
 use Rattle.matching.specs.Matches.{HasMatch as HasOpen, TellsMatchRule, CanPlanMatch, PlansMatch}
 use Rattle.contraction.specs.Making.{CanMeasure, TellsFits}
@@ -45,11 +46,11 @@ module _ (types : Table) (rs : List Record) (s : State) (h : CanStep types rs s)
         go : (t : Term) → Sought types rs t (Redex z level) → CanPlanWhole rs z.s
         go t (redex _ _ C u k r c n) = whole_plans types rs z level C u t k r c n
 
-    pub aim_whole : (i : ℕ) → TellsRule rs z.s i → (plan : Plan) → PlansWhole rs z.s plan → (hole : Ahead) → IsHole z level hole → Aims types rs s (record { rule = i; plan = plan; free = z.l; hole = hole })
-    aim_whole i g plan p hole o = record { does = λ t runs. go t runs (at_turn (Redex z level) e t runs) }
+    pub aim_whole : (rule : Rule) → TellsRule rs z.s rule → (plan : Plan) → PlansWhole rs z.s plan → (hole : Ahead) → IsHole z level hole → Aims types rs s (record { rule = rule; plan = plan; free = z.l; hole = hole })
+    aim_whole rule g plan p hole o = record { does = λ t runs. go t runs (at_turn (Redex z level) e t runs) }
       where
-        go : (t : Term) → Runs types rs s t → Sought types rs t (Redex z level) → Contracting types rs s (record { rule = i; plan = plan; free = z.l; hole = hole }) t
-        go t runs (redex _ _ C u k r c n) = whole_contracting types rs z level C u t k r c s runs h.unlike n i g plan p hole o
+        go : (t : Term) → Runs types rs s t → Sought types rs t (Redex z level) → Contracting types rs s (record { rule = rule; plan = plan; free = z.l; hole = hole }) t
+        go t runs (redex _ _ C u k r c n) = whole_contracting types rs z level C u t k r c s runs h.unlike n rule g plan p hole o
 
   -- A match that is open.
   module _ (z : Focus) (e : s.turn ≡ Match z) where
@@ -59,8 +60,8 @@ module _ (types : Table) (rs : List Record) (s : State) (h : CanStep types rs s)
         go : (t : Term) → Sought types rs t (Match z) → HasOpen types rs z.top z.r
         go t (matched _ (match m) f v w C q k l r c) = open_plans types rs z m f v w C q t k l r c
 
-    pub aim_plans_match : (i : ℕ) → TellsMatchRule types rs z.top z.r i → CanPlanMatch types rs z.top z.r i
-    aim_plans_match i b = let v = aim_matches in record { has = v; number = b.is v.lo v.end v.replaced v.contractum v.found }
+    pub aim_plans_match : (rule : Rule) → TellsMatchRule types rs z.top z.r rule → CanPlanMatch types rs z.top z.r rule
+    aim_plans_match rule b = let v = aim_matches in record { has = v; ruled = b.is v.lo v.end v.replaced v.contractum v.found }
 
     pub aim_opens : HasMatch rs z
     aim_opens = go h.term (at_turn (Match z) e h.term h.runs)
@@ -68,11 +69,11 @@ module _ (types : Table) (rs : List Record) (s : State) (h : CanStep types rs s)
         go : (t : Term) → Sought types rs t (Match z) → HasMatch rs z
         go t (matched _ x f v w C q k l r c) = record { kind = x; fields = f; success = v; failure = w; context = C; code = q; laid = k.laid }
 
-    pub aim_open : (i : ℕ) → TellsMatchRule types rs z.top z.r i → (plan : Plan) → PlansMatch types rs z.top z.r i plan → (hole : Ahead) → Drops rs z hole → Aims types rs s (record { rule = i; plan = plan; free = z.l; hole = hole })
-    aim_open i b plan p hole d = record { does = λ t runs. go t runs (at_turn (Match z) e t runs) }
+    pub aim_open : (rule : Rule) → TellsMatchRule types rs z.top z.r rule → (plan : Plan) → PlansMatch types rs z.top z.r rule plan → (hole : Ahead) → Drops rs z hole → Aims types rs s (record { rule = rule; plan = plan; free = z.l; hole = hole })
+    aim_open rule b plan p hole d = record { does = λ t runs. go t runs (at_turn (Match z) e t runs) }
       where
-        go : (t : Term) → Runs types rs s t → Sought types rs t (Match z) → Contracting types rs s (record { rule = i; plan = plan; free = z.l; hole = hole }) t
-        go t runs (matched _ (match m) f v e C q k l r c) = open_contracting types rs z m f v e C q t k l r c s runs h.unlike i b plan p hole d
+        go : (t : Term) → Runs types rs s t → Sought types rs t (Match z) → Contracting types rs s (record { rule = rule; plan = plan; free = z.l; hole = hole }) t
+        go t runs (matched _ (match m) f v e C q k l r c) = open_contracting types rs z m f v e C q t k l r c s runs h.unlike rule b plan p hole d
 
   -- What the state isn't at.
   pub aim_value : (r : Aim) (z : Focus) → s.turn ≡ Value z → Aims types rs s r

@@ -3,11 +3,11 @@ use Rattle.std.specs.Prelude.{ℕ, ◌+◌, ◌^◌, ◌≤◌, ◌<◌, List, [
 use Rattle.rules.specs.Terms.{Term, size}
 use Rattle.rules.specs.Types.{Table}
 use Rattle.rules.specs.Typing.{Typed}
-use Rattle.rules.specs.Contractions.{rule_number}
 use Rattle.rules.specs.Format.{Record, most_records}
 use Rattle.contexts.specs.Contexts.{Context, plug, level_at, Evaluation}
 use Rattle.zipper.specs.Layout.{Around}
 use Rattle.contraction.specs.Plans.{Planned}
+use Rattle.contraction.specs.Naming.{rule_named}
 use Rattle.steps.specs.declared.state.State.{State}
 use Rattle.steps.specs.declared.state.Aim.{Aim}
 use Rattle.steps.specs.declared.state.Step.{Step}
@@ -27,7 +27,7 @@ pub record Contracting (types : Table) (rs : List Record) (s : State) (a : Aim) 
   pub at_level : a.hole.level ≡ level_at 0 context
   pub end : ℕ
   pub planned : Planned rs a.free end a.hole.r a.plan becomes.event.replaced contractum
-  pub ruled : a.rule ≡ rule_number becomes.event.rule
+  pub ruled : a.rule ≡ rule_named becomes.event.rule
   pub placed : becomes.event.place ≡ a.hole.l + 1
   pub after_hole : a.hole.l ≤ a.free
   pub gap : a.free + most_records ≤ end

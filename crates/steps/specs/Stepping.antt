@@ -4,11 +4,11 @@ use Rattle.std.proofs.Math.Option.{some}
 use Rattle.rules.specs.Terms.{Term, size}
 use Rattle.rules.specs.Types.{Table, NoTwins}
 use Rattle.rules.specs.Values.{value}
-use Rattle.rules.specs.Contractions.{rule_number}
 use Rattle.rules.specs.Steps.{Event}
 use Rattle.rules.specs.Next.{next}
 use Rattle.rules.specs.Format.{Record, most_records}
 use Rattle.navigation.specs.Ascending.{Sought, Turned}
+use Rattle.contraction.specs.Naming.{rule_named}
 use Rattle.steps.specs.declared.events.Event.{Event as Told}
 use Rattle.steps.specs.declared.state.State.{State}
 use Rattle.steps.specs.declared.state.Step.{Step}
@@ -55,9 +55,9 @@ pub record Becomes (types : Table) (t u : Term) : Type 0 where
   pub event : Event
   pub is_next : next types 0 t ≡ some (record { event = event; term = u })
 
--- An event as a step tells it, its rule by its number.
+-- An event as a step tells it, its rule by its name.
 abbrev pub told : Event → Told
-told e = record { rule = rule_number e.rule; place = e.place; replaced = e.replaced }
+told e = record { rule = rule_named e.rule; place = e.place; replaced = e.replaced }
 
 -- After a step from t: the next term has room, and the step is made, with its event; or "the next term has more than 2,048 records", and no
 -- step is made.

@@ -1,9 +1,10 @@
 // The event of a step, as the step hands it on.
+use contraction::Rule;
 
-// The rule by its number, the place of the record that was rewritten, the root's being 1, and how many variables gave way.
+// The rule, the place of the record that was rewritten, the root's being 1, and how many variables gave way.
 #[derive(Clone, Copy)]
 pub struct Event {
-    pub rule: u16,
+    pub rule: Rule,
     pub place: u16,
     pub replaced: u32,
 }

@@ -6,7 +6,7 @@ ghost use Rattle.steps.specs.Starting.{CanStart, Starts};
 ghost use Rattle.steps.specs.Output.{Settles, CanWriteOut, WritesOut};
 
 use crate::events::Event;
-use contraction::Plan;
+use contraction::{Plan, Rule};
 use navigation::Turn;
 use seeking::seek_from;
 use zipper::{Ahead, Focus};
@@ -34,7 +34,7 @@ pub struct Step {
 // What becomes of the focus: by which rule, what is planned, the first slot that is free for it, and the hole that it fills.
 #[derive(Clone, Copy)]
 struct Aim {
-    rule: u16,
+    rule: Rule,
     plan: Plan,
     free: usize,
     hole: Ahead,
@@ -100,13 +100,13 @@ impl State {
                 }
             }
             Turn::Value(z) => Aim {
-                rule: 0,
+                rule: Rule::Application,
                 plan: Plan::Tree(z.s, 0),
                 free: z.l,
                 hole: zipper::hole_of(z, 0),
             },
             Turn::Next(a) => Aim {
-                rule: 0,
+                rule: Rule::Application,
                 plan: Plan::Tree(a.r, 0),
                 free: a.l,
                 hole: a,

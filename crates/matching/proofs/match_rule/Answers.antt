@@ -3,9 +3,6 @@ use borrow.Author.Rules.{rules}
 use Rattle.matching.proofs.Outcomes.{ruling}
 use Rattle.matching.proofs.match_rule.Goals as goal
 
-pub overflow_sub-rule : goal.overflow_sub-rule
-overflow_sub-rule c = search (ruling, rules)
-
 pub matches-requires : goal.matches-requires
 matches-requires c = search (ruling, rules)
 

@@ -1,13 +1,12 @@
 -- Each need is one law of Outcomes.
-use borrow.Author.Rules.{rules}
-use Rattle.matching.proofs.Outcomes.{outcomes}
+use Rattle.matching.proofs.Outcomes.{can_succeed, match_succeeds, match_fails}
 use Rattle.matching.proofs.plan_match.Goals as goal
 
 pub success-requires : goal.success-requires
-success-requires c = search (outcomes, rules)
+success-requires c = can_succeed _ _ _ _ _ _ c.in-Success.is c.requires
 
-pub returns-then-rule-eq1 : goal.returns-then-rule-eq1
-returns-then-rule-eq1 c = search (outcomes, rules)
+pub returns-in-Success : goal.returns-in-Success
+returns-in-Success c = match_succeeds _ _ _ _ _ _ c.in-Success.is _ c.success.ensures
 
-pub returns-else-rule-eq1 : goal.returns-else-rule-eq1
-returns-else-rule-eq1 c = search (outcomes, rules)
+pub returns-in_default : goal.returns-in_default
+returns-in_default c = match_fails _ _ _ _ _ _ c.in_default.not-Success c.skip.ensures
