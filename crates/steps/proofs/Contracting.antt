@@ -23,7 +23,7 @@ use Rattle.zipper.proofs.Sides.{length_left}
 use Rattle.contraction.specs.declared.making.Block.{Block}
 use Rattle.contraction.specs.Making.{Makes, CanMake, Made, MakesBlock}
 use Rattle.steps.specs.declared.state.State.{State}
-use Rattle.steps.specs.declared.state.Step.{Step}
+use Rattle.steps.specs.declared.events.Event.{Event}
 use Rattle.steps.specs.declared.state.Aim.{Aim}
 use Rattle.steps.specs.Stepping.{running}
 use Rattle.steps.specs.Contracting.{Contracting, Roomy, CanProceed, Proceeds}
@@ -97,15 +97,15 @@ module _ (rs : List Record) (s : State) (a : Aim) (h : CanProceed rs s a) where
     proceed_replaced = let (w, few) = event_within h.contracting in omega (arith, (made h.contracting h.room m).counted, w.few)
 
     module _ (rs₂ : List Record) (b : Ahead) (p : PutsAhead rs₁ rs₂ a.hole block.at block.size b) where
-      abbrev after : Step
-      after = record { state = record { turn = Next b; steps = s.steps + 1 }; event = record { rule = a.rule; place = a.hole.l + 1; replaced = block.replaced } }
+      abbrev event : Event
+      event = record { rule = a.rule; place = a.hole.l + 1; replaced = block.replaced }
 
-      pub proceed_made : Proceeds rs rs₂ s a after
+      pub proceed_made : Proceeds rs rs₂ s a (record { next = b; event = event })
       proceed_made = record {
         does = λ types whole k room.
             let u = plug k.context k.contractum in
             let counted = (made k room m).counted in
-            running after u k.becomes (omega (arith, next_size k, room, inside k))
+            running (record { state = record { turn = Next b; steps = s.steps + 1 }; event = event }) u k.becomes (omega (arith, next_size k, room, inside k))
             (record { turned = next b k.context k.contractum (held k room m rs₂ b p) (omega arith) }) refl
             (λ i. record { rule = k.ruled i; place = sym k.placed i; replaced = counted i });
       }

@@ -1,5 +1,5 @@
 -- `State::aim` and `State::step`: by what the state is at. `aiming` and `stepping` for search.
-use Prim.Native.Nat.{ℕ, ◌-◌, ◌≤◌}
+use Prim.Native.Nat.{◌+◌, ℕ, ◌-◌, ◌≤◌}
 use native.Mathlib.Omega.{arith}
 use mathlib.Core.Bool.{Bool, true, false}
 use mathlib.Core.List.{List}
@@ -23,7 +23,7 @@ use Rattle.contraction.specs.Redexes.{CanPlanWhole, TellsRule, PlansWhole}
 use Rattle.matching.specs.Matches.{HasMatch as HasOpen, TellsMatchRule, CanPlanMatch, PlansMatch}
 use Rattle.contraction.specs.Making.{CanMeasure, TellsFits}
 use Rattle.steps.specs.declared.state.State.{State}
-use Rattle.steps.specs.declared.state.Step.{Step}
+use Rattle.steps.specs.declared.state.Advance.{Advance}
 use Rattle.steps.specs.declared.state.Aim.{Aim}
 use Rattle.std.specs.Prelude.{Some, None}
 use Rattle.steps.specs.Stepping.{Runs, CanStep, too_large, Stepped}
@@ -76,11 +76,11 @@ module _ (types : Table) (rs : List Record) (s : State) (h : CanStep types rs s)
         go t runs (matched _ (match m) f v e C q k l r c) = open_contracting types rs z m f v e C q t k l r c s runs h.unlike rule b plan p hole d
 
   -- What the state isn't at.
-  pub aim_value : (r : Aim) (z : Focus) → s.turn ≡ Value z → Aims types rs s r
-  aim_value r z e = absurd (subst T (sym (sought_value types rs h.term z (at_turn (Value z) e h.term h.runs)) ∙ h.no_value) tt)
+  pub aim_value : (z : Focus) → s.turn ≡ Value z → ⊥
+  aim_value z e = absurd (subst T (sym (sought_value types rs h.term z (at_turn (Value z) e h.term h.runs)) ∙ h.no_value) tt)
 
-  pub aim_next : (r : Aim) (a : Ahead) → s.turn ≡ Next a → Aims types rs s r
-  aim_next r a e = absurd (sought_over types rs h.term (Next a) (at_turn (Next a) e h.term h.runs))
+  pub aim_next : (a : Ahead) → s.turn ≡ Next a → ⊥
+  aim_next a e = absurd (sought_over types rs h.term (Next a) (at_turn (Next a) e h.term h.runs))
 
   -- What the focus becomes is made where it has room, and the state is stopped where it has none.
   module _ (a : Aim) (d : Aims types rs s a) where
@@ -106,7 +106,7 @@ module _ (types : Table) (rs : List Record) (s : State) (h : CanStep types rs s)
       pub step_proceeds : b ≡ true → CanProceed rs s a
       step_proceeds e = record { types = types; whole = h.term; contracting = k₀; room = roomy e k₀; counts = h.counts }
 
-      pub step_proceeded : b ≡ true → (rs' : List Record) (r : Step) → Proceeds rs rs' s a r → Stepped types rs rs' s (Some r)
+      pub step_proceeded : b ≡ true → (rs' : List Record) (r : Advance) → Proceeds rs rs' s a r → Stepped types rs rs' s (Some (record { state = record { turn = Next r.next; steps = s.steps + 1 }; event = r.event }))
       step_proceeded e rs' r p = record { does = λ t k. p.does types t (d.does t k) (roomy e (d.does t k)) }
 
       pub step_full : b ≡ false → Stepped types rs rs s None

@@ -10,7 +10,8 @@ use Rattle.contraction.specs.Plans.{Planned}
 use Rattle.contraction.specs.Naming.{rule_named}
 use Rattle.steps.specs.declared.state.State.{State}
 use Rattle.steps.specs.declared.state.Aim.{Aim}
-use Rattle.steps.specs.declared.state.Step.{Step}
+use Rattle.steps.specs.declared.state.Advance.{Advance}
+use Rattle.navigation.specs.declared.ascending.Turn.TheVariants.{Next}
 use Rattle.steps.specs.Stepping.{Runs, Becomes, After}
 
 -- The state holds the term `whole`, whose next term is u in the context C. The context stands around the hole. The plan says where the parts of u
@@ -48,5 +49,5 @@ pub record CanProceed (rs : List Record) (s : State) (a : Aim) : Type 0 where
   pub room : Roomy contracting
   pub counts : s.steps + 1 < 2 ^ 32
 
-pub record Proceeds (rs rs' : List Record) (s : State) (a : Aim) (r : Step) : Type 0 where
-  pub does : (types : Table) (whole : Term) (k : Contracting types rs s a whole) → Roomy k → After types rs' s whole (Some r)
+pub record Proceeds (rs rs' : List Record) (s : State) (a : Aim) (r : Advance) : Type 0 where
+  pub does : (types : Table) (whole : Term) (k : Contracting types rs s a whole) → Roomy k → After types rs' s whole (Some (record { state = record { turn = Next r.next; steps = s.steps + 1 }; event = r.event }))

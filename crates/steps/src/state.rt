@@ -40,6 +40,13 @@ struct Aim {
     hole: Ahead,
 }
 
+// What is made of the focus: the next one, and the event.
+#[derive(Clone, Copy)]
+struct Advance {
+    next: Ahead,
+    event: Event,
+}
+
 impl State {
     // The state before the first step: the tree of the root of `count` records, in the last slots.
     pub fn start(records: &[u8], count: u16, work: &mut [u8]) -> State
@@ -77,7 +84,7 @@ impl State {
         }
     }
 
-    // What becomes of the focus. What isn't rewritten stays as it is.
+    // What becomes of the focus, which is rewritten.
     fn aim(self, table: &[u8], work: &[u8]) -> Aim
         requires { CanStep (entries_in table.now) (records_in work.now) self }
         ensures { Aims (entries_in table.now) (records_in work.now) self result }
@@ -99,36 +106,25 @@ impl State {
                     hole: zipper::dropped(work, z),
                 }
             }
-            Turn::Value(z) => Aim {
-                rule: Rule::Application,
-                plan: Plan::Tree(z.s, 0),
-                free: z.l,
-                hole: zipper::hole_of(z, 0),
-            },
-            Turn::Next(a) => Aim {
-                rule: Rule::Application,
-                plan: Plan::Tree(a.r, 0),
-                free: a.l,
-                hole: a,
-            },
+            Turn::Value(_) | Turn::Next(_) => unreachable!(),
         }
     }
 
     // Makes what the focus becomes and puts it into the hole. There is room for it; the slots from `aim.free` to the right side are free.
-    fn proceed(&mut self, work: &mut [u8], aim: Aim) -> Event
-        requires { CanProceed (records_in work.old) self.old aim }
-        ensures { Proceeds (records_in work.old) (records_in work.new) self.old aim (record { state = self.new; event = result }) }
+    fn proceed(self, work: &mut [u8], aim: Aim) -> Advance
+        requires { CanProceed (records_in work.old) self aim }
+        ensures { Proceeds (records_in work.old) (records_in work.new) self aim result }
     {
         let plan = aim.plan;
         let hole = aim.hole;
         let made = contraction::make(work, plan, aim.free);
-        let next = zipper::put_ahead(work, hole, made.at, made.size);
-        self.turn = Turn::Next(next);
-        self.steps += 1;
-        Event {
-            rule: aim.rule,
-            place: (hole.l + 1) as u16,
-            replaced: made.replaced as u32,
+        Advance {
+            next: zipper::put_ahead(work, hole, made.at, made.size),
+            event: Event {
+                rule: aim.rule,
+                place: (hole.l + 1) as u16,
+                replaced: made.replaced as u32,
+            },
         }
     }
 
@@ -140,8 +136,13 @@ impl State {
         let aim = self.aim(table, work);
         let plan = aim.plan;
         if contraction::fits(work, plan, aim.hole.r - aim.hole.l - MOST) {
-            let event = self.proceed(work, aim);
-            return Some(Step { state: self, event });
+            let made = self.proceed(work, aim);
+            self.turn = Turn::Next(made.next);
+            self.steps += 1;
+            return Some(Step {
+                state: self,
+                event: made.event,
+            });
         }
         None
     }

@@ -3,8 +3,8 @@ use Rattle.std.proofs.Common.{rules}
 use Rattle.steps.proofs.Contracting.{proceeding}
 use Rattle.steps.proofs.state.State.proceed.Goals as goal
 
-pub put_ahead-next-requires : goal.put_ahead-next-requires
-put_ahead-next-requires c = search (proceeding, rules)
+pub put_ahead-requires : goal.put_ahead-requires
+put_ahead-requires c = search (proceeding, rules)
 
 pub overflow_cast-result-2 : goal.overflow_cast-result-2
 overflow_cast-result-2 c = search (proceeding, rules)

@@ -3,8 +3,8 @@ use Rattle.std.proofs.Common.{rules}
 use Rattle.steps.proofs.Stepping.{stepping}
 use Rattle.steps.proofs.state.State.step.Goals as goal
 
-pub proceed-event-requires : goal.proceed-event-requires
-proceed-event-requires c = search (stepping, rules)
+pub proceed-made-requires : goal.proceed-made-requires
+proceed-made-requires c = search (stepping, rules)
 
 pub returns-then-fits : goal.returns-then-fits
 returns-then-fits c = search (stepping, rules)
