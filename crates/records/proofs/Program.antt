@@ -1,14 +1,11 @@
--- The table and the records of a program whose length is what its two counts say, as views of two parts of its bytes; `layouts` for search.
+-- The table and the records of a program whose length is what its two counts say, as views of two parts of its bytes.
 -- A part `&p[a..e]` of a slice is `take (e - a) (drop a p)`, and `&p[a..]` is that with e the length. Assumes nothing.
-use Prim.Native.Nat.{ℕ, ◌+◌, ◌*◌, ◌-◌, ◌≤◌, ◌<◌}
+use Prim.Native.Nat.{ℕ, ◌+◌, ◌*◌, ◌-◌}
 use native.Mathlib.Omega.{arith}
 use mathlib.Core.Path.{◌≡◌, sym, ap, ap₂, ◌∙◌}
 use mathlib.Core.List.{List}
 use lib.ListN.{length, take, drop}
-use Rattle.rules.specs.Editions.{Edition}
-use Rattle.rules.specs.FieldUses.{TypeFields}
 use Rattle.rules.specs.Format.{type_count, record_count, table_of, records_of}
-use Rattle.rules.specs.Meets.{MeetsLayout}
 use Rattle.records.specs.View.{entries_in, records_in}
 use Rattle.records.proofs.Fields.{entry_form, record_form}
 use Rattle.records.proofs.Views.{viewed_part}
@@ -32,23 +29,3 @@ module _ (p : List ℕ) (whole : length p ≡ 4 + 6 * type_count p + 16 * record
   program_records_slice e h =
       let n : 16 * record_count p ≡ length p - e = omega arith in
       records_part ∙ ap₂ (λ m k. records_in (take m (drop k p))) n (sym h)
-
--- A program of good layout: its counts can be read, and with T types these are its two parts.
-module _ (fields : TypeFields) (edition : Edition) (p : List ℕ) (m : MeetsLayout fields edition p) where
-  pub layout_types : 0 + 1 < length p
-  layout_types = omega (arith, m.exact)
-
-  pub layout_count : 2 + 1 < length p
-  layout_count = omega (arith, m.exact)
-
-  module _ (T : ℕ) (eT : T ≡ type_count p) where
-    pub layout_end : 4 + 6 * T ≤ length p
-    layout_end = omega (arith, m.exact)
-
-    pub layout_table_slice : table_of p ≡ entries_in (take (4 + 6 * T - 4) (drop 4 p))
-    layout_table_slice = program_table_slice p m.exact (4 + 6 * T) (omega (arith, eT))
-
-    pub layout_records_slice : records_of p ≡ records_in (take (length p - (4 + 6 * T)) (drop (4 + 6 * T) p))
-    layout_records_slice = program_records_slice p m.exact (4 + 6 * T) (omega (arith, eT))
-
-pub ruleset layouts = (layout_types, layout_count, layout_end)
