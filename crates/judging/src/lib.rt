@@ -169,7 +169,8 @@ fn type_ok(table: &[u8], bound: u16, kind: Kind, r: Record, x: u16, y: u16, z: u
 }
 
 // A record of this kind with the fields of r, at this level under the binders, whose children have the written types x, y and z: the number of the
-// lowest of 10 to 12 that it breaks, or 0. A number is handed back in a register: with a `Result` in its place a check took 1.07 times as long.
+// lowest of 10 to 12 that it breaks, or 0. A number is handed back in a register: with a `Result` in its place a check took up to 1.08
+// times as long.
 pub fn judge(
     table: &[u8],
     binders: &[u32],
@@ -197,7 +198,7 @@ pub fn judge(
     0
 }
 
-// What such a number says: well for 0, and else why the record is refused.
+// What a number says that `judge` answers: well for 0, and else why the record is refused.
 pub fn judged(number: u16) -> Result<(), Reason>
     ensures { Names number result }
 {

@@ -1,4 +1,5 @@
-// The kinds by name, and the tables of what each has and does, by the kind's number and its ranges: code asks these. The type rules (`judging`) and the step rules (`contraction`,
+// The kinds by name, and the tables of what each has and does: code asks these. They match the kind's number with ranges, the form that is named for
+// them (docs/DECISIONS.md). The type rules (`judging`) and the step rules (`contraction`,
 // `matching`), which are each kind's own, are matched by the kind where they stand.
 ghost use Rattle.std.specs.Prelude.{◌≡◌, ◌≤◌};
 ghost use Rattle.rules.specs.Kinds.{child_count, kind_of, kind_number};
@@ -140,26 +141,24 @@ impl Kind {
 
     // How many of its children it steps at this level.
     pub fn stepping(self, level: u16) -> u16
-        requires { level ≤ 1 }
         ensures { result ≡ stepping level (kind_meant self) }
     {
         match self.number() {
-            1..=2 => 0,
-            3 | 8 => level,
             4 => 2,
             5 => 1,
-            _ => 1 - level,
+            3 | 8 => (level == 1) as u16,
+            6..=7 | 9..=14 => (level == 0) as u16,
+            _ => 0,
         }
     }
 
     // Whether it is rewritten itself at this level, once the children that it steps are done.
     pub fn contracts(self, level: u16) -> bool
-        requires { level ≤ 1 }
         ensures { result ≡ contracts level (kind_meant self) }
     {
         match self.number() {
-            8 => 0 < level,
             4..=6 | 9..=14 => level == 0,
+            8 => level == 1, // a splice
             _ => false,
         }
     }

@@ -2,8 +2,8 @@
 ghost use Rattle.std.specs.Prelude.{◌≡◌};
 ghost use Rattle.refusals.specs.Reports.{reason_number};
 
-// The rows of document 01's table of refusals by their numbers, and those of document 02, N1: "13 a nonzero type field", and 14, "its type would be a 257th
-// entry".
+// The rows of document 01's table of refusals by their numbers, and those of document 02, N1: "13 a nonzero type field", and 14, "its type would be
+// a 257th entry".
 #[derive(Clone, Copy, PartialEq, Eq)]
 pub enum Reason {
     OutputShort = 1,

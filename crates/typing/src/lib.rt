@@ -26,8 +26,8 @@ pub struct Child {
 }
 
 // What the walk over a tree says is one number: below this how many records are left after the tree, where nothing is refused; else a refusal, its
-// number times this and its place. It is handed back in a register: by a `Result` three values came back by memory, and a check took 1.12 times as
-// long.
+// number times this and its place. It is handed back in a register: by a `Result` three values came back by memory, and a check took up to 1.18 times
+// as long.
 const REFUSED: u32 = 65536;
 
 // A refusal as one number.

@@ -3,12 +3,12 @@ use Prim.Native.Nat.{ℕ, suc, ◌+◌, ◌-◌, ◌^◌, ◌≤◌, ◌<◌}
 use native.Mathlib.Omega.{arith}
 use mathlib.Core.List.{List, [], ◌∷◌}
 use mathlib.Core.Path.{◌≡◌, refl, sym, ap, ◌∙◌, subst}
-use lib.ListN.{length, get_or}
+use lib.ListN.{length}
 use mir.Syntax.{w64}
 use mir.Val.{Fits}
 use Rattle.rules.specs.Kinds.{child_count, kind_of}
 use Rattle.rules.specs.Terms.{Term, size}
-use Rattle.rules.specs.Format.{Record, no_record}
+use Rattle.rules.specs.Format.{Record}
 use Rattle.rules.proofs.KindTable.{kind_back, kind_range}
 use Rattle.rules.proofs.Laid.{size_some}
 use Rattle.kinds.specs.declared.names.Kind.{Kind}
@@ -20,12 +20,9 @@ use Rattle.contexts.specs.Contexts.{Frame, only, first, second, first₃, second
 use Rattle.zipper.specs.declared.focus.Focus.{Focus}
 use Rattle.terms.specs.Preorder.{There, At, HasTree, Skips}
 use Rattle.terms.specs.Measuring.{HasKind, KindIs}
-use Rattle.zipper.specs.Focusing.{LinkIs, HasTrees, SkipsAll, LaidAt, HasFrame, CountsAfter}
+use Rattle.zipper.specs.Focusing.{HasTrees, SkipsAll, LaidAt, HasFrame, CountsAfter}
 use Rattle.terms.proofs.Trees.{first_tree, later_trees}
 use Rattle.zipper.proofs.Places.{at_start, frame_read, siblings}
-
-pub link_reads : (rs : List Record) (i : ℕ) (r : Record) → r ≡ get_or rs i no_record → LinkIs rs i r.first
-link_reads rs i r e = record { is = ap (λ x. x.first) e }
 
 -- `skip_all`: the trees from `at` on are left, of those that stand from i on.
 record Row (rs : List Record) (i n at j : ℕ) (ts : List Term) : Type 0 where
