@@ -196,6 +196,24 @@ pub fn put(s: &mut [u8], i: usize, r: Record)
     put_at(s, 16 * i, r)
 }
 
+// How many entries a table has.
+#[tactic(auto, using(crate::proofs::Entries::entries_length))]
+pub fn entry_count(table: &[u8]) -> u16
+    requires { length (entries_in table.now) < 65536 }
+    ensures { result ≡ length (entries_in table.now) }
+{
+    (table.len() / 6) as u16
+}
+
+// How many records there are.
+#[tactic(auto, using(crate::proofs::Records::records_length))]
+pub fn record_count(records: &[u8]) -> u16
+    requires { length (records_in records.now) < 65536 }
+    ensures { result ≡ length (records_in records.now) }
+{
+    (records.len() / 16) as u16
+}
+
 // Entry `n`, counted from 1.
 pub fn entry_no(table: &[u8], n: u16) -> Entry
     requires { Within (entries_in table.now) n }
