@@ -1,13 +1,11 @@
-// The parts of a program by its layout: two counts, and as many type entries and records as they say.
+// The parts of a program by its layout: as many type entries and records as its two counts say.
 #![tactic(auto)]
 
 ghost use Rattle.parts.specs.Layout.{IsLaidOut, ArePartsOf};
 
-// The two counts of a program, and the bytes of its type table and of its records.
+// The bytes of a program's type table and of its records: their lengths say how many there are.
 #[derive(Clone, Copy)]
 pub struct Parts<'a> {
-    pub types: u16,
-    pub count: u16,
     pub table: &'a [u8],
     pub records: &'a [u8],
 }
@@ -19,11 +17,8 @@ pub fn parts_of(program: &[u8]) -> Parts<'_>
     ensures { ArePartsOf program.now result }
 {
     let types = records::get16(program, 0);
-    let count = records::get16(program, 2);
     let end = 4 + 6 * (types as usize);
     Parts {
-        types,
-        count,
         table: &program[4..end],
         records: &program[end..],
     }

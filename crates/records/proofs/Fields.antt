@@ -34,7 +34,7 @@ record_front s = λ i. record {
 
 module _ (s : List ℕ) (bytes : AreBytes s) where
   -- A field that is read fits.
-  u16_fits : (at : ℕ) → u16 s at < 65536
+  pub u16_fits : (at : ℕ) → u16 s at < 65536
   u16_fits at = omega (arith, bytes at, bytes (at + 1))
 
   u32_fits : (at : ℕ) → u32 s at < 4294967296
