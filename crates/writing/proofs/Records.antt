@@ -35,7 +35,7 @@ filled_bytes s vs s' p b l h =
     sym (take-append-drop (16 * length vs) s') ∙ ap₂ ◌++◌ (records_joined_front s' (length vs) b (omega arith) ∙ ap (joined record_bytes) f) e
 
 -- The part of the buffer from `start` on, as the code lends it and as it comes back.
-module _ (ws : List Record) (i : ℕ) (s : List ℕ) (start : ℕ) where
+module _ (rs : List Record) (s : List ℕ) (start : ℕ) where
   abbrev rest : List ℕ
   rest = take (length s - start) (drop start s)
 
@@ -51,7 +51,7 @@ module _ (ws : List Record) (i : ℕ) (s : List ℕ) (start : ℕ) where
       ap (λ x. take start s ++ (p ++ x)) (drop-drop (length s - start) start s ∙ ap (λ n. drop n s) e ∙ drop-length s) ∙ ap (◌++◌ (take start s)) (append-nil p)
 
   -- A tree's records fit there.
-  tree_fits : (t : Term) → length s < 2 ^ 64 → RecordsFit ws i s start t → Writable ws i rest (record { number = 1; length = start }) t
+  tree_fits : (t : Term) → length s < 2 ^ 64 → RecordsFit rs s start t → Writable rs 0 rest (record { number = 1; length = start }) t
   tree_fits t b h =
       let l : length rest ≡ length s - start = ap length rest_is ∙ length-drop start s in
       record {
@@ -62,15 +62,15 @@ module _ (ws : List Record) (i : ℕ) (s : List ℕ) (start : ℕ) where
         short = omega (arith, h.room);
       }
 
-  pub can_write_rest : CanWriteRecords ws i s start → length s < 2 ^ 64 → CanWrite ws i rest (record { number = 1; length = start })
+  pub can_write_rest : CanWriteRecords rs s start → length s < 2 ^ 64 → CanWrite rs 0 rest (record { number = 1; length = start })
   can_write_rest h b = record { tree = h.tree; can = tree_fits h.tree b h.can }
 
-  pub wrote_rest : (p : List ℕ) (r : Writer) → length s < 2 ^ 64 → length p ≡ length rest → AreBytes (with_rest p) → Writes ws i rest p (record { number = 1; length = start }) 0 r
-      → WritesRecords ws i s (with_rest p) start r.length
+  pub wrote_rest : (p : List ℕ) (r : Writer) → length s < 2 ^ 64 → length p ≡ length rest → AreBytes (with_rest p) → Writes rs 0 rest p (record { number = 1; length = start }) 0 r
+      → WritesRecords rs s (with_rest p) start r.length
   unfolding overwritten
   wrote_rest p r b l y f = record { does = λ t h. go t h (f.does t (tree_fits t b h)) }
     where
-      go : (t : Term) → RecordsFit ws i s start t → WroteTree rest p (record { number = 1; length = start }) 0 t r → WroteRecords s (with_rest p) start t r.length
+      go : (t : Term) → RecordsFit rs s start t → WroteTree rest p (record { number = 1; length = start }) 0 t r → WroteRecords s (with_rest p) start t r.length
       go t h q =
           let z = length_laid 1 0 t in
           let k : length rest ≡ length s - start = ap length rest_is ∙ length-drop start s in

@@ -97,33 +97,28 @@ pub fn copy_bytes(from: &[u8], out: &mut [u8], at: usize)
     out[at..at + from.len()].copy_from_slice(from);
 }
 
-// Writes the records of the tree at `i` from byte `start` on, and tells where they end.
-fn write_records(w: &[u8], i: usize, out: &mut [u8], start: usize) -> usize
-    requires { CanWriteRecords (records_in w.now) i out.old start }
-    ensures { WritesRecords (records_in w.now) i out.old out.new start result }
+// Writes the records of the tree at the front of `records` from byte `start` on, and tells where they end.
+#[tactic(auto, using(crate::proofs::Records::can_write_rest, crate::proofs::Records::wrote_rest))]
+fn write_records(records: &[u8], out: &mut [u8], start: usize) -> usize
+    requires { CanWriteRecords (records_in records.now) out.old start }
+    ensures { WritesRecords (records_in records.now) out.old out.new start result }
 {
     let first = Writer {
         number: 1,
         length: start,
     };
-    let done = write_tree(w, i, &mut out[start..], first, 0);
+    let done = write_tree(records, 0, &mut out[start..], first, 0);
     done.length
 }
 
-// Writes the table of `types` entries and the tree at `i` of `w`, of `count` records, as a program, and tells its length.
-pub fn write_program(
-    table: &[u8],
-    types: u16,
-    w: &[u8],
-    i: usize,
-    count: u16,
-    out: &mut [u8],
-) -> usize
-    requires { CanWriteProgram table.now types (records_in w.now) i count out.old }
-    ensures { WritesProgram table.now types (records_in w.now) i count out.old out.new result }
+// Writes the table and the tree whose records these are as a program, and tells its length.
+#[tactic(auto, using(crate::proofs::Program::program_written))]
+pub fn write_program(table: &[u8], records: &[u8], out: &mut [u8]) -> usize
+    requires { CanWriteProgram table.now (records_in records.now) out.old }
+    ensures { WritesProgram table.now (records_in records.now) out.old out.new result }
 {
-    records::put16(out, 0, types);
-    records::put16(out, 2, count);
+    records::put16(out, 0, records::entry_count(table));
+    records::put16(out, 2, records::record_count(records));
     copy_bytes(table, out, 4);
-    write_records(w, i, out, 4 + 6 * (types as usize))
+    write_records(records, out, 4 + table.len())
 }
