@@ -10,7 +10,7 @@ use Rattle.records.specs.Overwritten.{overwritten}
 use Rattle.records.specs.View.{records_in}
 use Rattle.records.proofs.Form.{AreBytes}
 use Rattle.records.proofs.Fields.{record_form}
-use Rattle.records.proofs.Views.{viewed_length, viewed_room, viewed_read, viewed_fit, viewed_write, viewed_joined_front}
+use Rattle.records.proofs.Views.{viewed_length, viewed_room, viewed_read, viewed_fit, viewed_front, viewed_write, viewed_joined_front}
 
 -- How many there are, and which places have one.
 pub records_length : (s : List ℕ) → length (records_in s) ≡ length s / 16
@@ -36,7 +36,12 @@ pub records_write : (s : List ℕ) (i : ℕ) (x : Record) → i < length (record
 unfolding records_in
 records_write = viewed_write record_form
 
--- The first bytes are the first records, written one after another.
+-- The first bytes are the first records.
+pub records_front : (s : List ℕ) (n : ℕ) → 16 * n ≤ length s → records_in (take (16 * n) s) ≡ take n (records_in s)
+unfolding records_in
+records_front = viewed_front record_form
+
+-- They are these, written one after another.
 pub records_joined_front : (s : List ℕ) (n : ℕ) → AreBytes s → 16 * n ≤ length s → take (16 * n) s ≡ joined record_bytes (take n (records_in s))
 unfolding records_in
 records_joined_front = viewed_joined_front record_form

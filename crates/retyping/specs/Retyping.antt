@@ -6,6 +6,7 @@ use Rattle.rules.specs.Typing.{Typed}
 use Rattle.rules.specs.Format.{Record, most_types, most_records}
 use Rattle.rules.specs.Links.{root_tree}
 use Rattle.inference.specs.Inference.{retyped_record, cleared, types_of}
+use Rattle.records.specs.View.{entries_in}
 use Rattle.terms.specs.Loads.{WellLinked}
 use Rattle.writing.specs.Program.{WroteProgram}
 
@@ -19,29 +20,27 @@ with_types (n ∷ ts) (r ∷ rs) = retyped_record n r ∷ with_types ts rs
 pub record PutsTypes (rs : List Record) (ts : List ℕ) (rs' : List Record) : Type 0 where
   pub is : rs' ≡ with_types ts rs
 
--- The types ts make t of the tree of the root of `count` records rs, whose types are omitted: "clearing its types gives the input's tree back". It keeps
--- the rules of some table, the table that is written has as many entries as `types` says, and there is room for t in the records ws and for the
--- program in the bytes s.
-pub record TypedFits (rs : List Record) (count : ℕ) (ts table : List ℕ) (types : ℕ) (ws : List Record) (s : List ℕ) (t : Term) : Type 0 where
+-- The types ts make t of the tree of the root of the records rs, whose types are omitted: "clearing its types gives the input's tree back". It keeps the
+-- rules of some table, the table that is written is some whole entries, and there is room for t in the records ws and for the program in the bytes s.
+pub record TypedFits (rs : List Record) (ts table : List ℕ) (ws : List Record) (s : List ℕ) (t : Term) : Type 0 where
   pub ruled : Table
   pub typed : Typed ruled [] 0 t
   pub back : cleared t ≡ root_tree rs
   pub given : types_of t ≡ ts
   pub linked : WellLinked rs
-  pub counted : length rs ≡ count
-  pub size_is : size t ≡ count
-  pub some : 1 ≤ count
-  pub few : count ≤ most_records
-  pub entries : length table ≡ 6 * types
-  pub some_types : 1 ≤ types
-  pub few_types : types ≤ most_types
-  pub slots : count ≤ length ws
-  pub room : 4 + 6 * types + 16 * count ≤ length s
+  pub size_is : size t ≡ length rs
+  pub some : 1 ≤ length rs
+  pub few : length rs ≤ most_records
+  pub entries : length table ≡ 6 * length (entries_in table)
+  pub some_types : 1 ≤ length (entries_in table)
+  pub few_types : length (entries_in table) ≤ most_types
+  pub slots : length rs ≤ length ws
+  pub room : 4 + 6 * length (entries_in table) + 16 * length rs ≤ length s
 
-pub record CanWriteTyped (rs : List Record) (count : ℕ) (ts table : List ℕ) (types : ℕ) (ws : List Record) (s : List ℕ) : Type 0 where
+pub record CanWriteTyped (rs : List Record) (ts table : List ℕ) (ws : List Record) (s : List ℕ) : Type 0 where
   pub tree : Term
-  pub can : TypedFits rs count ts table types ws s tree
+  pub can : TypedFits rs ts table ws s tree
 
 -- The typed program is written over s, and r is its length: "writes the typed program in preorder".
-pub record WritesTyped (rs : List Record) (count : ℕ) (ts table : List ℕ) (types : ℕ) (ws : List Record) (s s' : List ℕ) (r : ℕ) : Type 0 where
-  pub does : (t : Term) → TypedFits rs count ts table types ws s t → WroteProgram table types count s s' t r
+pub record WritesTyped (rs : List Record) (ts table : List ℕ) (ws : List Record) (s s' : List ℕ) (r : ℕ) : Type 0 where
+  pub does : (t : Term) → TypedFits rs ts table ws s t → WroteProgram table s s' t r

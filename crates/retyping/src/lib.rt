@@ -18,21 +18,22 @@ fn put_types(w: &mut [u8], given: &[u16])
     }
 }
 
-// Writes a program with its types: loads the tree of the root of `count` records into the work buffer, puts the types into it, and writes it with the
-// table of `types` entries. Tells the length.
+// Writes a program with its types: loads the tree of the root of `records` into the work buffer, puts the types into it, and writes it with the table. Tells
+// the length.
+
 pub fn write_typed(
     records: &[u8],
-    count: u16,
     given: &[u16],
     table: &[u8],
-    types: u16,
     work: &mut [u8],
     output: &mut [u8],
 ) -> usize
-    requires { CanWriteTyped (records_in records.now) count given.now table.now types (records_in work.old) output.old }
-    ensures { WritesTyped (records_in records.now) count given.now table.now types (records_in work.old) output.old output.new result }
+    requires { CanWriteTyped (records_in records.now) given.now table.now (records_in work.old) output.old }
+    ensures { WritesTyped (records_in records.now) given.now table.now (records_in work.old) output.old output.new result }
 {
+    let count = records::record_count(records);
     terms::load(records, 1, count, work, 0);
     put_types(work, given);
-    writing::write_program(table, types, work, 0, count, output)
+    let end = 16 * (count as usize);
+    writing::write_program(table, &work[..end], output)
 }

@@ -4,3 +4,4 @@ pub mod Children
 pub mod Tree
 pub mod Records
 pub mod Program
+pub mod Fronts
