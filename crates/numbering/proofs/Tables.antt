@@ -56,9 +56,9 @@ entry_put {types} {new} {x} s s' n e i p =
 pub ruleset placing_entry = (nothing_put, entry_put)
 
 -- The loop: the entries of types 1 to x are put.
-pub record Ordering (types : Table) (count : ℕ) (new : List ℕ) (es : Table) (x : ℕ) (es' : Table) : Type 0 where
-  pub can : CanOrderTable types count new es
-  pub low : x ≤ count
+pub record Ordering (types : Table) (new : List ℕ) (es : Table) (x : ℕ) (es' : Table) : Type 0 where
+  pub can : CanOrderTable types new es
+  pub low : x ≤ length types
   pub so_far : OrdersTable types x new es es'
 
 length_all : (types : Table) (new : List ℕ) (n : ℕ) (es : Table) → length (with_entries types new n es) ≡ length es
@@ -66,25 +66,25 @@ unfolding with_entries
 length_all types new zero es = refl
 length_all types new (suc n) es = length_one types new (suc n) (with_entries types new n es) ∙ length_all types new n es
 
-module _ {types : Table} {count : ℕ} {new : List ℕ} {es : Table} where
-  pub ordering_starts : CanOrderTable types count new es → Ordering types count new es 0 es
+module _ {types : Table} {new : List ℕ} {es : Table} where
+  pub ordering_starts : CanOrderTable types new es → Ordering types new es 0 es
   unfolding with_entries
   ordering_starts c = record { can = c; low = omega arith; so_far = record { is = refl } }
 
-  module _ {x : ℕ} {es' : Table} (o : Ordering types count new es x es') where
-    pub next_entry : x < count → CanOrderEntry types (x + 1) new es'
-    next_entry l = record {
+  module _ {x : ℕ} {es' : Table} (o : Ordering types new es x es') where
+    pub next_entry : {n : ℕ} → x < n → n ≡ length types → CanOrderEntry types (x + 1) new es'
+    next_entry l long = record {
       good = o.can.good;
-      is = (omega arith, omega (arith, l, o.can.counted));
+      is = (omega arith, omega arith);
       room = o.can.room;
       fits = λ y i. omega (arith, o.can.fits y i, ap length o.so_far.is, length_all types new x es);
     }
 
-    pub entry_done : x < count → {es'' : Table} → OrdersEntry types (x + 1) new es' es'' → Ordering types count new es (x + 1) es''
+    pub entry_done : {n : ℕ} → x < n → n ≡ length types → {es'' : Table} → OrdersEntry types (x + 1) new es' es'' → Ordering types new es (x + 1) es''
     unfolding with_entries
-    entry_done l {es''} p = record {
+    entry_done l long {es''} p = record {
       can = o.can;
-      low = omega (arith, l);
+      low = omega arith;
       so_far = subst (λ n. OrdersTable types n new es es'') (sym (add-one x)) (record { is = p.is ∙ ap₂ (λ n ys. with_entry types new n ys) (add-one x) o.so_far.is });
     }
 

@@ -1,5 +1,5 @@
 -- Records that get the new numbers of the types that they name, from the first record of a list on.
-use Rattle.std.specs.Prelude.{ℕ, zero, suc, ◌≤◌, ◌<◌, List, [], ◌∷◌, ◌≡◌, length, get_or, take}
+use Rattle.std.specs.Prelude.{ℕ, zero, suc, ◌<◌, List, [], ◌∷◌, ◌≡◌, length, get_or, take}
 use Rattle.rules.specs.Lists.{All, joined}
 use Rattle.rules.specs.Types.{Table}
 use Rattle.rules.specs.Format.{Record}
@@ -27,12 +27,12 @@ front_names n rs = joined types_of_record (take n rs)
 abbrev pub front_uses : Table → ℕ → List Record → List ℕ
 front_uses types n rs = need_all types (front_names n rs) []
 
--- The first n records can be renumbered_term: the types that they name are entries, and none has a number yet.
-pub record CanRenumber (types : Table) (rs : List Record) (n : ℕ) (new : List ℕ) : Type 0 where
+-- The records can be renumbered: the types that they name are entries, and none has a number yet.
+pub record CanRenumber (types : Table) (rs : List Record) (new : List ℕ) : Type 0 where
   pub good : GoodEntries types
   pub few : length types < 257
-  pub within : n ≤ length rs
-  pub entries : All (NamesType types) (front_names n rs)
+  pub short : length rs < 65536
+  pub entries : All (NamesType types) (front_names (length rs) rs)
   pub numbering : Numbering types new 0 []
 
 -- The types that the first n records name have numbers, and the records have these.

@@ -27,8 +27,8 @@ pub record OrdersEntry (types : Table) (x : ℕ) (new : List ℕ) (es es' : Tabl
   pub is : es' ≡ with_entry types new x es
 
 -- The same for all types of the table.
-pub record CanOrderTable (types : Table) (count : ℕ) (new : List ℕ) (es : Table) : Type 0 where
-  pub counted : length types ≡ count
+pub record CanOrderTable (types : Table) (new : List ℕ) (es : Table) : Type 0 where
+  pub few : length types < 65536
   pub good : GoodEntries types
   pub room : length types < length new
   pub fits : (x : ℕ) → x ≤ length types → get_or new x 0 ≤ length es

@@ -101,17 +101,18 @@ fn with_numbers(r: Record, new: &[u16]) -> Record
     }
 }
 
-// Gives the types that the first `n` records of `w` name their numbers, and puts each record back with these: a number once given never changes. Tells
-// how many types have one.
-fn renumber(table: &[u8], w: &mut [u8], n: usize, new: &mut [u16]) -> u16
-    requires { CanRenumber (entries_in table.now) (records_in w.old) n new.old }
-    ensures { Renumbers (entries_in table.now) (records_in w.old) n (records_in w.new) new.new result }
+// Gives the types that the records name their numbers, and puts each record back with these: a number once given never changes. Tells how many types
+// have one.
+fn renumber(table: &[u8], records: &mut [u8], new: &mut [u16]) -> u16
+    requires { CanRenumber (entries_in table.now) (records_in records.old) new.old }
+    ensures { Renumbers (entries_in table.now) (records_in records.old) (length (records_in records.old)) (records_in records.new) new.new result }
 {
     let mut count: u16 = 0;
-    for i in 0..n {
-        let r = records::get(w, i);
+    for i in 0..records::record_count(records) {
+        let at = i as usize;
+        let r = records::get(records, at);
         count = need_record(table, r, new, count);
-        records::put(w, i, with_numbers(r, new));
+        records::put(records, at, with_numbers(r, new));
     }
     count
 }
@@ -135,35 +136,33 @@ fn order_entry(table: &[u8], x: u16, new: &[u16], ordered: &mut [u8])
 }
 
 // The same for each type of the table.
-fn order_table(table: &[u8], types: u16, new: &[u16], ordered: &mut [u8])
-    requires { CanOrderTable (entries_in table.now) types new.now (entries_in ordered.old) }
-    ensures { OrdersTable (entries_in table.now) types new.now (entries_in ordered.old) (entries_in ordered.new) }
+fn order_table(table: &[u8], new: &[u16], ordered: &mut [u8])
+    requires { CanOrderTable (entries_in table.now) new.now (entries_in ordered.old) }
+    ensures { OrdersTable (entries_in table.now) (length (entries_in table.now)) new.now (entries_in ordered.old) (entries_in ordered.new) }
 {
-    for i in 0..types {
+    for i in 0..records::entry_count(table) {
         let x = i + 1;
         order_entry(table, x, new, ordered);
     }
 }
 
-// Writes the tree at the front of `w`, of `count` records, as a program with the table of its types in order of use. The numbers stand in `new`, the
-// table in `ordered`. The records of `w` have their new numbers then.
+// Writes the tree whose records these are as a program with the table of its types in order of use. The numbers stand in `new`, the table in `ordered`.
+// The records have their new numbers then.
 fn write_with(
     table: &[u8],
-    types: u16,
-    w: &mut [u8],
-    count: u16,
+    records: &mut [u8],
     new: &mut [u16],
     ordered: &mut [u8],
     out: &mut [u8],
 ) -> Ordered
-    requires { CanWriteWith table.now types (records_in w.old) count new.old ordered.old out.old }
-    ensures { WritesInOrder table.now types (records_in w.old) count out.old out.new result }
+    requires { CanWriteWith table.now (records_in records.old) new.old ordered.old out.old }
+    ensures { WritesInOrder table.now (records_in records.old) out.old out.new result }
 {
-    let used = renumber(table, w, count as usize, new);
-    order_table(table, types, new, ordered);
+    let used = renumber(table, records, new);
+    order_table(table, new, ordered);
     let end = 6 * (used as usize);
-    let length = writing::write_program(&ordered[..end], used, w, 0, count, out);
-    let root = records::get(w, 0);
+    let length = writing::write_program(&ordered[..end], records, out);
+    let root = records::get(records, 0);
     Ordered {
         length,
         root: root.ty,
@@ -171,11 +170,11 @@ fn write_with(
 }
 
 // The same, with arrays of its own.
-pub fn write_in_order(table: &[u8], types: u16, w: &mut [u8], count: u16, out: &mut [u8]) -> Ordered
-    requires { CanWriteInOrder table.now types (records_in w.old) count out.old }
-    ensures { WritesInOrder table.now types (records_in w.old) count out.old out.new result }
+pub fn write_in_order(table: &[u8], records: &mut [u8], out: &mut [u8]) -> Ordered
+    requires { CanWriteInOrder table.now (records_in records.old) out.old }
+    ensures { WritesInOrder table.now (records_in records.old) out.old out.new result }
 {
     let mut new = [0u16; NUMBERS];
     let mut ordered = [0u8; TABLE];
-    write_with(table, types, w, count, &mut new, &mut ordered, out)
+    write_with(table, records, &mut new, &mut ordered, out)
 }

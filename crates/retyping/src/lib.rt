@@ -20,7 +20,6 @@ fn put_types(w: &mut [u8], given: &[u16])
 
 // Writes a program with its types: loads the tree of the root of `records` into the work buffer, puts the types into it, and writes it with the table. Tells
 // the length.
-
 pub fn write_typed(
     records: &[u8],
     given: &[u16],
