@@ -15,9 +15,8 @@ use Rattle.records.specs.View.{records_in}
 use Rattle.terms.specs.Preorder.{preorder, At, Stored}
 use Rattle.terms.specs.Loads.{CanLoad}
 use Rattle.terms.proofs.Storing.{stored_length, stored_at}
-use Rattle.terms.proofs.Trees.{at_within}
 use Rattle.writing.specs.Program.{ProgramFits, CanWriteProgram, WritesProgram}
-use Rattle.writing.proofs.Fronts.{front_within, front_counted, front_long, front_at}
+use Rattle.writing.proofs.Fronts.{front_within, front_fits, front_long}
 use Rattle.retyping.specs.Retyping.{PutsTypes, TypedFits, CanWriteTyped, WritesTyped}
 use Rattle.retyping.proofs.Types.{length_types, bound_cleared}
 use Rattle.retyping.proofs.Putting.{typed_at}
@@ -40,22 +39,11 @@ module _ {rs : List Record} {ts table : List ℕ} {ws : List Record} {s : List �
           let loaded : At ws₁ 0 (tree_of count rs 1) = stored_at (tree_of count rs 1) l (omega (arith, loaded_size, h.slots)) in
           typed_at t ws₁ (records_in w) (rw cleared_loaded at loaded) (rw h.given p)
 
-      enough : count ≤ length (records_in w)
-      enough = omega (arith, h.size_is, at_within (records_in w) 0 t there)
+      size_is : size t ≡ count
+      size_is = h.size_is ∙ sym c
 
       program_fits : ProgramFits table (records_in (take (16 * count) w)) s t
-      program_fits =
-          let n = front_counted w count enough in
-          record {
-            entries = h.entries;
-            some_types = h.some_types;
-            few_types = h.few_types;
-            there = front_at w count t (h.size_is ∙ sym c) there;
-            size_is = h.size_is ∙ sym c ∙ sym n;
-            some = omega (arith, n, h.some);
-            few = omega (arith, n, h.few);
-            room = omega (arith, n, h.room);
-          }
+      program_fits = front_fits w count t size_is there h.entries h.some_types h.few_types (omega (arith, h.few)) (omega (arith, h.room))
 
   module _ (h : CanWriteTyped rs ts table ws s) where
     pub typed_loads : CanLoad rs 1 count ws 0
@@ -75,7 +63,7 @@ module _ {rs : List Record} {ts table : List ℕ} {ws : List Record} {s : List �
 
       module _ (w : List ℕ) (p : PutsTypes ws₁ ts (records_in w)) where
         pub tree_within : 16 * count ≤ length w
-        tree_within = front_within w count (enough h.tree h.can ws₁ e l w p)
+        tree_within = front_within w count h.tree (size_is h.tree h.can ws₁ e l w p) (there h.tree h.can ws₁ e l w p)
 
         pub typed_fits : CanWriteProgram table (records_in (take (16 * count) w)) s
         typed_fits = record { tree = h.tree; can = program_fits h.tree h.can ws₁ e l w p }

@@ -1,21 +1,22 @@
 -- `State::settle` and `State::write_out`: the frames are closed, and the whole term stands from slot 0 on. `settling` and `putting_out` for search.
-use Prim.Native.Nat.{ℕ}
+use Prim.Native.Nat.{ℕ, ◌*◌, ◌≤◌}
 use native.Mathlib.Omega.{arith}
 use mathlib.Core.List.{List, []}
 use mathlib.Core.Path.{◌≡◌, subst}
-use mir.Syntax.{w16}
-use mir.Val.{Fits}
-use Rattle.rules.specs.Terms.{Term}
+use lib.ListN.{length, take}
+use Rattle.rules.specs.Terms.{Term, size}
 use Rattle.rules.specs.Types.{Table}
-use Rattle.rules.specs.Format.{Record}
-use Rattle.rules.proofs.Laid.{size_some}
+use Rattle.rules.specs.Format.{Record, most_records}
+use Rattle.records.specs.View.{records_in}
+use Rattle.terms.specs.Preorder.{At}
 use Rattle.contexts.specs.Contexts.{Context, left_size}
 use Rattle.zipper.specs.declared.focus.Focus.{Focus}
 use Rattle.zipper.specs.declared.focus.Ahead.{Ahead}
 use Rattle.navigation.specs.declared.ascending.Turn.TheVariants.{Next, Value, Redex, Match}
-use Rattle.zipper.specs.Focusing.{LaidAt, HasAhead, Brings, CanCloseAll, ClosesAll}
+use Rattle.zipper.specs.Focusing.{LaidAt, HasAhead, Brings, ClosesAll}
 use Rattle.navigation.specs.Ascending.{Held, Sought, valued, redex, matched}
 use Rattle.writing.specs.Program.{ProgramFits, CanWriteProgram, WritesProgram}
+use Rattle.writing.proofs.Fronts.{front_within, front_fits, front_long}
 use Rattle.steps.specs.declared.state.State.{State}
 use Rattle.steps.specs.Stepping.{Runs, HasRun}
 use Rattle.steps.specs.Output.{LaidOut, Settles, CanWriteOut, WritesOut}
@@ -54,48 +55,36 @@ module _ (rs : List Record) (s : State) where
 
 pub ruleset settling = (settle_brings, settle_brought, settle_value, settle_redex, settle_match)
 
-module _ (table : List ℕ) (types : ℕ) (rs : List Record) (s : State) (out : List ℕ) (h : CanWriteOut table types rs s out) where
-  pub out_settles : HasRun rs s
-  out_settles = record { types = h.rules; term = h.term; runs = h.runs }
+module _ (table : List ℕ) (rs : List Record) (s : State) (out : List ℕ) (h : CanWriteOut table rs s out) where
+  module _ (rs₁ : List Record) (z : Focus) (st : Settles rs rs₁ s z) (work : List ℕ) (w : Focus) (cl : ClosesAll rs₁ (records_in work) z w) where
+    module _ (rules : Table) (t : Term) (r : Runs rules rs s t) where
+      laid : LaidAt (records_in work) w [] t
+      laid = let k = st.does rules t r in rw k.same at (cl.does rules k.context k.focus k.laid (rw k.same k.typed))
 
-  module _ (rs₁ : List Record) (z : Focus) (st : Settles rs rs₁ s z) where
-    pub out_closes : CanCloseAll rs₁ z
-    out_closes = let k = st.does h.rules h.term h.runs in record { types = h.rules; context = k.context; focus = k.focus; laid = k.laid; typed = rw k.same k.typed }
-
-    module _ (rs₂ : List Record) (w : Focus) (cl : ClosesAll rs₁ rs₂ z w) where
-      laid_whole : (rules : Table) (t : Term) → Runs rules rs s t → LaidAt rs₂ w [] t
-      laid_whole rules t r = let k = st.does rules t r in rw k.same at (cl.does rules k.context k.focus k.laid (rw k.same k.typed))
-
-      fits_out : (rules : Table) (t : Term) → Runs rules rs s t → ProgramFits table types rs₂ 0 w.l out t
+      at_zero : w.s ≡ 0
       unfolding left_size
-      fits_out rules t r =
-          let k = laid_whole rules t r in
-          let few = runs_few rules rs s t r in
-          let at_zero : w.s ≡ 0 = k.around.start in
-          record {
-            entries = h.entries;
-            some_types = h.some_types;
-            few_types = h.few_types;
-            there = record { there = rw at_zero at k.focus };
-            size_is = omega (arith, k.end, at_zero);
-            some = omega (arith, k.end, size_some t);
-            few = omega (arith, k.end, at_zero);
-            room = omega (arith, k.end, at_zero, h.few_types, h.room);
-          }
+      at_zero = laid.around.start
 
-      pub out_length_lem : Fits w16 w.l
-      out_length_lem = omega (arith, (fits_out h.rules h.term h.runs).few)
+      at_front : At (records_in work) 0 t
+      at_front = record { there = rw at_zero at laid.focus }
 
-      pub out_fits : CanWriteProgram table types rs₂ 0 w.l out
-      out_fits = record { tree = h.term; can = fits_out h.rules h.term h.runs }
+      size_is : size t ≡ w.l
+      size_is = omega (arith, laid.end, at_zero)
 
-      pub out_written : (out' : List ℕ) (r : ℕ) → WritesProgram table types rs₂ 0 w.l out out' r → WritesOut table types rs s out out' r
-      out_written out' r d =
-          let fits = fits_out h.rules h.term h.runs in
-          let few = runs_few h.rules rs s h.term h.runs in
-          record {
-            does = λ rules t k. rw (fits_out rules t k).size_is (d.does t (fits_out rules t k));
-            short = omega (arith, (d.does h.term fits).long, fits.size_is, h.few_types);
-          }
+      fits_out : ProgramFits table (records_in (take (16 * w.l) work)) out t
+      fits_out =
+          let few : w.l ≤ most_records = omega (arith, size_is, runs_few rules rs s t r) in
+          front_fits work w.l t size_is at_front h.entries h.some_types h.few_types few (omega (arith, h.few_types, h.room))
 
-pub ruleset putting_out = (out_settles, out_closes, out_length_lem, out_fits, out_written)
+    pub out_within : 16 * w.l ≤ length work
+    out_within = front_within work w.l h.term (size_is h.rules h.term h.runs) (at_front h.rules h.term h.runs)
+
+    pub out_fits : CanWriteProgram table (records_in (take (16 * w.l) work)) out
+    out_fits = record { tree = h.term; can = fits_out h.rules h.term h.runs }
+
+    pub out_written : (out' : List ℕ) (r : ℕ) → WritesProgram table (records_in (take (16 * w.l) work)) out out' r → WritesOut table rs s out out' r
+    out_written out' r d =
+        let few = runs_few h.rules rs s h.term h.runs in
+        record { does = λ rules t k. d.does t (fits_out rules t k); short = omega (arith, (d.does h.term (fits_out h.rules h.term h.runs)).long, h.few_types) }
+
+pub ruleset putting_out = (out_within, front_long, out_fits, out_written)

@@ -1,8 +1,9 @@
 -- `State::start`: a program's first term is loaded to the last slots, and is to be searched. `starting` for search.
-use Prim.Native.Nat.{ℕ, ◌-◌, ◌≤◌}
+use Prim.Native.Nat.{ℕ, ◌-◌}
 use native.Mathlib.Omega.{arith}
 use mathlib.Core.List.{List, []}
-use mathlib.Core.Path.{refl}
+use mathlib.Core.Path.{◌≡◌, refl, subst}
+use lib.ListN.{length}
 use Rattle.rules.specs.Types.{Table}
 use Rattle.rules.specs.Typing.{Typed}
 use Rattle.rules.specs.Format.{Record}
@@ -23,19 +24,16 @@ use Rattle.steps.specs.Starting.{CanStart, Starts}
 abbrev first_focus : ℕ → Ahead
 first_focus r = record { l = 0; r = r; top = 0; level = 0 }
 
-module _ (program : List Record) (count : ℕ) (rs : List Record) (h : CanStart program count rs) where
-  pub start_fits : count ≤ 4096
-  start_fits = omega (arith, h.few)
-
+module _ (program : List Record) (count : ℕ) (c : count ≡ length program) (rs : List Record) (h : CanStart program rs) where
   pub start_loads : CanLoad program 1 count rs (4096 - count)
   start_loads =
       let bound = typed_bound h.types [] 0 (root_tree program) h.typed in
       record {
         linked = h.linked;
-        within = record { some = omega arith; most = omega (arith, h.counted, h.some) };
-        enough = omega (arith, h.counted);
-        room = rw (← h.counted) (omega (arith, h.whole, h.counted, h.few, h.room));
-        small = rw (← h.counted) (omega (arith, h.whole, h.few));
+        within = record { some = omega arith; most = omega (arith, h.some) };
+        enough = omega arith;
+        room = rw c (omega (arith, h.whole, h.few, h.room));
+        small = rw c (omega (arith, h.whole, h.few));
       }
 
   module _ (rs' : List Record) (e : ℕ) (l : Stored rs rs' (4096 - count) (preorder (tree_of count program 1)) e) where
@@ -43,7 +41,7 @@ module _ (program : List Record) (count : ℕ) (rs : List Record) (h : CanStart 
     unfolding plug level_at left_size Evaluation right_size top_place left_records right_records
     first_held types y =
         let long = stored_length l in
-        let loaded : At rs' (4096 - count) (root_tree program) = rw h.counted (stored_at (tree_of count program 1) l start_loads.room) in
+        let loaded : At rs' (4096 - count) (root_tree program) = subst (λ n. At rs' (4096 - count) (tree_of n program 1)) c (stored_at (tree_of count program 1) l start_loads.room) in
         record {
           laid = record {
             around = record {
@@ -70,4 +68,4 @@ module _ (program : List Record) (count : ℕ) (rs : List Record) (h : CanStart 
       steps = refl;
     }
 
-pub ruleset starting = (start_fits, start_loads, start_holds)
+pub ruleset starting = (start_loads, start_holds)

@@ -1,10 +1,11 @@
 -- The term of a state, written out as a program.
 use Rattle.std.specs.Prelude.{ℕ, ◌*◌, ◌≤◌, List, [], ◌≡◌, length}
-use Rattle.rules.specs.Terms.{Term, size}
+use Rattle.rules.specs.Terms.{Term}
 use Rattle.rules.specs.Types.{Table}
 use Rattle.rules.specs.Typing.{Typed}
 use Rattle.rules.specs.Format.{Record}
 use Rattle.rules.specs.Run.{output_needed}
+use Rattle.records.specs.View.{entries_in}
 use Rattle.contexts.specs.Contexts.{Context, plug}
 use Rattle.zipper.specs.declared.focus.Focus.{Focus}
 use Rattle.zipper.specs.Focusing.{LaidAt}
@@ -23,16 +24,16 @@ pub record LaidOut (types : Table) (rs : List Record) (z : Focus) (t : Term) : T
 pub record Settles (rs rs' : List Record) (s : State) (r : Focus) : Type 0 where
   pub does : (types : Table) (t : Term) → Runs types rs s t → LaidOut types rs' r t
 
--- The state holds a term, the table has as many entries as `types` says, and the output has room for the largest program.
-pub record CanWriteOut (table : List ℕ) (types : ℕ) (rs : List Record) (s : State) (out : List ℕ) : Type 0 where
+-- The state holds a term, the table is some whole entries, and the output has room for the largest program.
+pub record CanWriteOut (table : List ℕ) (rs : List Record) (s : State) (out : List ℕ) : Type 0 where
   pub rules : Table
   pub term : Term
   pub runs : Runs rules rs s term
-  pub entries : length table ≡ 6 * types
-  pub some_types : 1 ≤ types
-  pub few_types : types ≤ 256
+  pub entries : length table ≡ 6 * length (entries_in table)
+  pub some_types : 1 ≤ length (entries_in table)
+  pub few_types : length (entries_in table) ≤ 256
   pub room : output_needed ≤ length out
 
-pub record WritesOut (table : List ℕ) (types : ℕ) (rs : List Record) (s : State) (out out' : List ℕ) (r : ℕ) : Type 0 where
-  pub does : (rules : Table) (t : Term) → Runs rules rs s t → WroteProgram table types (size t) out out' t r
+pub record WritesOut (table : List ℕ) (rs : List Record) (s : State) (out out' : List ℕ) (r : ℕ) : Type 0 where
+  pub does : (rules : Table) (t : Term) → Runs rules rs s t → WroteProgram table out out' t r
   pub short : r ≤ output_needed

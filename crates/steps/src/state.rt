@@ -48,11 +48,12 @@ struct Advance {
 }
 
 impl State {
-    // The state before the first step: the tree of the root of `count` records, in the last slots.
-    pub fn start(records: &[u8], count: u16, work: &mut [u8]) -> State
-        requires { CanStart (records_in records.now) count (records_in work.old) }
+    // The state before the first step: the tree of the root of a program's records, in the last slots.
+    pub fn start(records: &[u8], work: &mut [u8]) -> State
+        requires { CanStart (records_in records.now) (records_in work.old) }
         ensures { Starts (records_in records.now) (records_in work.new) result }
     {
+        let count = records::record_count(records);
         let r = SLOTS - (count as usize);
         terms::load(records, 1, count, work, r);
         let first = Ahead {
@@ -168,13 +169,13 @@ impl State {
         }
     }
 
-    // Closes every frame, writes the table of `types` entries and the term as a program, and tells its length.
-    pub fn write_out(self, table: &[u8], types: u16, work: &mut [u8], out: &mut [u8]) -> usize
-        requires { CanWriteOut table.now types (records_in work.old) self out.old }
-        ensures { WritesOut table.now types (records_in work.old) self out.old out.new result }
+    // Closes every frame, writes the table and the term as a program, and tells its length.
+    pub fn write_out(self, table: &[u8], work: &mut [u8], out: &mut [u8]) -> usize
+        requires { CanWriteOut table.now (records_in work.old) self out.old }
+        ensures { WritesOut table.now (records_in work.old) self out.old out.new result }
     {
         let z = self.settle(work);
         let whole = zipper::close_all(work, z);
-        writing::write_program(table, types, work, 0, whole.l as u16, out)
+        writing::write_program(table, &work[..16 * whole.l], out)
     }
 }
