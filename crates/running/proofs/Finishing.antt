@@ -13,9 +13,9 @@ use Rattle.running.specs.declared.Halted.{Halted}
 use Rattle.running.specs.Looping.{Halts, RunsOut}
 use Rattle.running.specs.Finishing.{CanFinish, Finished, Finishes}
 
-module _ (table : List ℕ) (types : ℕ) (rs : List Record) (s : State) (out : List ℕ) (h : CanFinish table types rs s out) (fuel : ℕ) (rs₁ : List Record) (q : Halted)
+module _ (table : List ℕ) (rs : List Record) (s : State) (out : List ℕ) (h : CanFinish table rs s out) (fuel : ℕ) (rs₁ : List Record) (q : Halted)
     (ro : RunsOut (entries_in table) fuel rs rs₁ s q) where
-  pub finish_writes : CanWriteOut table types rs₁ q.state out
+  pub finish_writes : CanWriteOut table rs₁ q.state out
   finish_writes =
       let halted = ro.does h.run.term h.run.holds in
       record {
@@ -28,7 +28,7 @@ module _ (table : List ℕ) (types : ℕ) (rs : List Record) (s : State) (out : 
         room = h.room;
       }
 
-  module _ (out' : List ℕ) (w : ℕ) (wo : WritesOut table types rs₁ q.state out out' w) where
+  module _ (out' : List ℕ) (w : ℕ) (wo : WritesOut table rs₁ q.state out out' w) where
     abbrev completion : Completion
     completion = record { ending = q.ending; steps = q.state.steps; replaced = q.replaced; written = w }
 

@@ -2,9 +2,9 @@
 use Prim.Native.Nat.{ℕ}
 use native.Mathlib.Omega.{arith}
 use mathlib.Core.List.{List, []}
-use mathlib.Core.Path.{sym, ◌∙◌}
+use mathlib.Core.Path.{ap}
 use Rattle.rules.specs.Editions.{Edition}
-use Rattle.rules.specs.Terms.{Term}
+use Rattle.rules.specs.Terms.{Term, size}
 use Rattle.rules.specs.FieldUses.{given}
 use Rattle.rules.specs.Format.{Record, table_of}
 use Rattle.rules.specs.Links.{root_tree}
@@ -31,15 +31,14 @@ module _ (edition : Edition) (p out work : List ℕ) (h : CanRunProgram edition 
     first_typed : Typed (entries_in parts.table.now) [] 0 (root_tree (records_in parts.records.now))
     first_typed = rw (a.entries_are, a.records_are) m.typed
 
-    pub program_starts : CanStart (records_in parts.records.now) parts.count (records_in work)
+    pub program_starts : CanStart (records_in parts.records.now) (records_in work)
     program_starts = record {
       types = entries_in parts.table.now;
       typed = first_typed;
       linked = form_linked given edition h.known (table_of p) (records_in parts.records.now) (rw a.records_are m.layout.form);
-      whole = rw a.records_are (root_size edition p m ∙ sym a.count);
-      counted = a.records_counted;
-      some = omega (arith, a.count, m.layout.counts.1.0);
-      few = omega (arith, a.count, m.layout.counts.1.0);
+      whole = omega (arith, ap (λ rs. size (root_tree rs)) a.records_are, root_size edition p m, a.records_counted);
+      some = omega (arith, a.records_counted, m.layout.counts.1.0);
+      few = omega (arith, a.records_counted, m.layout.counts.1.0);
       room = omega (arith, records_length work, h.long);
     }
 
@@ -50,7 +49,7 @@ module _ (edition : Edition) (p out work : List ℕ) (h : CanRunProgram edition 
       holds : HoldsTerm (entries_in parts.table.now) rs₁ s first
       holds = st.holds (entries_in parts.table.now) first_typed
 
-      pub program_finishes : CanFinish parts.table.now parts.types rs₁ s out
+      pub program_finishes : CanFinish parts.table.now rs₁ s out
       program_finishes = record {
         run = record {
           term = first;
@@ -58,9 +57,9 @@ module _ (edition : Edition) (p out work : List ℕ) (h : CanRunProgram edition 
           none = st.steps;
           unlike = rw a.entries_are (unlike (table_of p) m.layout.form.entries);
         };
-        entries = a.table_long;
-        some_types = omega (arith, a.types, m.layout.counts.0);
-        few_types = omega (arith, a.types, m.layout.counts.0);
+        entries = omega (arith, a.table_long, a.entries_counted);
+        some_types = omega (arith, a.entries_counted, m.layout.counts.0);
+        few_types = omega (arith, a.entries_counted, m.layout.counts.0);
         room = h.room;
       }
 

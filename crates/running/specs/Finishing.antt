@@ -11,12 +11,12 @@ use Rattle.running.specs.declared.Completion.{Completion}
 use Rattle.running.specs.Endings.{ending_meant}
 use Rattle.running.specs.Looping.{CanRun}
 
--- The state holds the first term, the table has as many entries as `types` says, and the output has room for the largest program.
-pub record CanFinish (table : List ℕ) (types : ℕ) (rs : List Record) (s : State) (out : List ℕ) : Type 0 where
+-- The state holds the first term, the table is some whole entries, and the output has room for the largest program.
+pub record CanFinish (table : List ℕ) (rs : List Record) (s : State) (out : List ℕ) : Type 0 where
   pub run : CanRun (entries_in table) rs s
-  pub entries : length table ≡ 6 * types
-  pub some_types : 1 ≤ types
-  pub few_types : types ≤ 256
+  pub entries : length table ≡ 6 * length (entries_in table)
+  pub some_types : 1 ≤ length (entries_in table)
+  pub few_types : length (entries_in table) ≤ 256
   pub room : output_needed ≤ length out
 
 -- What is told and written is this outcome's.

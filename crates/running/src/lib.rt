@@ -86,21 +86,14 @@ pub struct Completion {
     pub written: u32,
 }
 
-// Runs the first term and writes the last one out, under a table of `types` entries.
-fn finish(
-    start: State,
-    table: &[u8],
-    types: u16,
-    fuel: u32,
-    work: &mut [u8],
-    output: &mut [u8],
-) -> Completion
-    requires { CanFinish table.now types (records_in work.old) start output.old }
+// Runs the first term and writes the last one out, under this table.
+fn finish(start: State, table: &[u8], fuel: u32, work: &mut [u8], output: &mut [u8]) -> Completion
+    requires { CanFinish table.now (records_in work.old) start output.old }
     ensures { Finishes table.now fuel (records_in work.old) start output.old output.new result }
 {
     let halted = run_steps(start, table, fuel, work);
     let last = halted.state;
-    let written = last.write_out(table, types, work, output);
+    let written = last.write_out(table, work, output);
     Completion {
         ending: halted.ending,
         steps: last.steps,
@@ -116,6 +109,6 @@ pub fn run_program(program: &[u8], fuel: u32, output: &mut [u8], work: &mut [u8]
     ensures { RunsProgram program.now fuel output.old output.new result }
 {
     let parts = parts::parts_of(program);
-    let start = State::start(parts.records, parts.count, work);
-    finish(start, parts.table, parts.types, fuel, work, output)
+    let start = State::start(parts.records, work);
+    finish(start, parts.table, fuel, work, output)
 }
