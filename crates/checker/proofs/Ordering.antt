@@ -57,4 +57,4 @@ module _ (fields : TypeFields) (edition : Edition) (types : Table) (rs : List Re
 pub links_good : (rs : List Record) → none ≡ lowest (links_rule rs) bad_link 1 (length rs) → NoBadLink rs
 links_good rs tl = no_bad_link rs (sym tl)
 
-pub ruleset ordering = (entry_refused, type_refused, link_refused, links_good)
+pub ruleset ordering = (entry_refused, field_refused, type_refused, link_refused, children_told, links_good)
