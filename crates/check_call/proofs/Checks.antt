@@ -32,15 +32,14 @@ module _ (p : List ℕ) (e : Edition) (first : edition_meant e ≡ first_edition
   pub check_meets : none ≡ refusal (edition_meant e) p → Meets first_edition p
   check_meets told = (exactly first_edition p).0 (sym (rw first at told))
 
-module _ (p : List ℕ) (meets : Meets first_edition p) where
-  module _ (parts : Parts) (a : ArePartsOf p parts) where
-    pub passing_root : 0 < length (records_in parts.records.now)
-    passing_root = omega (arith, a.records_counted, a.count, meets.layout.counts.1.0)
+module _ (p : List ℕ) (meets : Meets first_edition p) (parts : Parts) (a : ArePartsOf p parts) where
+  pub passing_root : 0 < length (records_in parts.records.now)
+  passing_root = omega (arith, a.records_counted, meets.layout.counts.1.0)
 
-    pub root_told : (r : Record) → record_meant r ≡ get_or (records_in parts.records.now) 0 no_record → r.ty ≡ type_no (records_of p) 1
-    root_told r e = ap (λ x. x.fields.type) e ∙ ap (λ rs. (get_or rs 0 no_record).fields.type) a.records_are
+  pub root_told : (r : Record) → record_meant r ≡ get_or (records_in parts.records.now) 0 no_record → r.ty ≡ type_no (records_of p) 1
+  root_told r e = ap (λ x. x.fields.type) e ∙ ap (λ rs. (get_or rs 0 no_record).fields.type) a.records_are
 
-  pub check_passed : (root R : ℕ) → root ≡ type_no (records_of p) 1 → R ≡ record_count p → passing root R ≡ check_answer first_edition p
-  check_passed root R e eR = ap₂ passing e eR ∙ sym (answered first_edition p ((exactly first_edition p).1 meets))
+  pub check_passed : (root R : ℕ) → root ≡ type_no (records_of p) 1 → R ≡ length (records_in parts.records.now) → passing root R ≡ check_answer first_edition p
+  check_passed root R e eR = ap₂ passing e (eR ∙ a.records_counted) ∙ sym (answered first_edition p ((exactly first_edition p).1 meets))
 
 pub ruleset checking = (passing_root, root_told, check_passed)

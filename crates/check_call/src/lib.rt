@@ -56,7 +56,7 @@ fn passed(program: &[u8]) -> CheckAnswer
         number: 0,
         place: 0,
         root_type: root as u32,
-        records: parts.count as u32,
+        records: records::record_count(parts.records) as u32,
     }
 }
 

@@ -49,11 +49,8 @@ module _ (p : List ℕ) (passes : SizePasses p) where
   sized_laid_out = record { exact = exact }
 
   module _ (parts : Parts) (a : ArePartsOf p parts) where
-    pub parts_sized : InLimits (entries_in parts.table.now) parts.types (records_in parts.records.now) parts.count
-    parts_sized = record {
-      sized = record { entries = a.entries_counted; records = a.records_counted };
-      most = omega (arith, a.count, counts.1.0);
-    }
+    pub parts_sized : InLimits (entries_in parts.table.now) (records_in parts.records.now)
+    parts_sized = record { few = a.entries_few; most = omega (arith, a.records_counted, counts.1.0) }
 
     pub form_told : (fields : TypeFields) (edition : Edition) (q : Option Refusal)
         → q ≡ form_refusal fields edition (entries_in parts.table.now) (records_in parts.records.now) → q ≡ layout_refusal fields edition p

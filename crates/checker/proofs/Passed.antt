@@ -4,7 +4,7 @@ use native.Mathlib.Omega.{arith}
 use mathlib.Core.Bool.{Bool, true, false}
 use mathlib.Core.List.{List, []}
 use mathlib.Core.Option.{Option, none, some}
-use mathlib.Core.Path.{◌≡◌, sym, ◌∙◌}
+use mathlib.Core.Path.{◌≡◌, sym}
 use lib.ListN.{length}
 use Rattle.rules.specs.Editions.{Edition}
 use Rattle.rules.specs.FieldUses.{TypeFields, given, omitted}
@@ -28,21 +28,20 @@ module _ (fields : TypeFields) (edition : Edition) (p : List ℕ) (tl : none ≡
   layout_passed = (layout_exactly fields edition p).0 (sym tl)
 
   -- Its records make one tree.
-  passed_tree : (parts : Parts) → ArePartsOf p parts → MakeTree (records_in parts.records.now) parts.count
+  passed_tree : (parts : Parts) → ArePartsOf p parts → MakeTree (records_in parts.records.now)
   passed_tree parts a =
       let m = layout_passed in
       let rs = records_of p in
       rw a.records_are (record {
         linked = lowest_holds (links_rule rs) bad_link 1 (length rs) m.form.linked;
         chained = lowest_holds (children_rule rs) bad_children 1 (length rs) m.form.chained;
-        all = records_counted p ∙ sym a.count;
-        real = omega (arith, a.count, m.counts.1.0);
-        most = omega (arith, a.count, m.counts.1.0);
+        real = omega (arith, records_counted p, m.counts.1.0);
+        most = omega (arith, records_counted p, m.counts.1.0);
       })
 
 -- So it is where the refusals of its two parts say nothing.
 pub form_tree : (p : List ℕ) → SizePasses p → (parts : Parts) → ArePartsOf p parts → (fields : TypeFields) (edition : Edition)
-    → none ≡ form_refusal fields edition (entries_in parts.table.now) (records_in parts.records.now) → MakeTree (records_in parts.records.now) parts.count
+    → none ≡ form_refusal fields edition (entries_in parts.table.now) (records_in parts.records.now) → MakeTree (records_in parts.records.now)
 form_tree p passes parts a fields edition tf = passed_tree fields edition p (form_told p passes parts a fields edition none tf) parts a
 
 -- 3 to 9 and 13, then, where types are given, the walk.
@@ -61,9 +60,9 @@ module _ (b : Bool) (edition : Edition) (p : List ℕ) where
     layout_told e = rw e (rw e at tl)
 
     pub walk_told : b ≡ true → (parts : Parts) → ArePartsOf p parts → (q : Option Refusal)
-        → q ≡ walked parts.count (entries_in parts.table.now) (records_in parts.records.now) [] 0 1 → q ≡ refusal_with (type_fields_meant b) edition p
+        → q ≡ walked (length (records_in parts.records.now)) (entries_in parts.table.now) (records_in parts.records.now) [] 0 1 → q ≡ refusal_with (type_fields_meant b) edition p
     unfolding refusal_with refusal type_fields_meant
-    walk_told e parts a q tw = rw e (reports_next q _ _ (rw e at tl) (rw (records_counted p ∙ sym a.count, ← a.entries_are, ← a.records_are) tw))
+    walk_told e parts a q tw = rw e (reports_next q _ _ (rw e at tl) (rw (← a.entries_are, ← a.records_are) tw))
 
 -- The refusal of a program whose types are given, and of one whose types are omitted.
 module _ (edition : Edition) (p : List ℕ) (q : Option Refusal) where

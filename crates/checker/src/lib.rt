@@ -2,7 +2,7 @@
 // omitted. The first check that refuses is the answer.
 #![tactic(auto)]
 
-ghost use Rattle.std.specs.Prelude.{◌≡◌, length};
+ghost use Rattle.std.specs.Prelude.{◌≡◌, ◌<◌, length};
 ghost use Rattle.rules.specs.Conditions.{holds};
 ghost use Rattle.kinds.specs.Meant.{edition_meant, type_fields_meant};
 ghost use Rattle.rules.specs.Refusals.{type_written, lowest};
@@ -26,34 +26,27 @@ fn counts_ok(types: u16, count: u16) -> bool
 
 // Refusal 13, where types are not given.
 #[tactic(auto, using(crate::proofs::Ordering::given_told, crate::proofs::Ordering::omitted_told))]
-fn written_refusal(records: &[u8], count: u16, given: bool) -> Result<(), Refusal>
-    requires { length (records_in records.now) ≡ count }
-    ensures { Reports result (lowest (omitted_rule (type_fields_meant given) (records_in records.now)) type_written 1 count) }
+fn written_refusal(records: &[u8], given: bool) -> Result<(), Refusal>
+    requires { length (records_in records.now) < 65536 }
+    ensures { Reports result (lowest (omitted_rule (type_fields_meant given) (records_in records.now)) type_written 1 (length (records_in records.now))) }
 {
     if given {
         return Ok(());
     }
-    fields::omitted_refusal(records, count)
+    fields::omitted_refusal(records)
 }
 
 // Refusals 6, 7, 13, 8 and 9 of a table and records.
 #[tactic(auto, using(crate::proofs::Ordering::ordering))]
-fn form_refusal(
-    table: &[u8],
-    types: u16,
-    records: &[u8],
-    count: u16,
-    edition: Edition,
-    given: bool,
-) -> Result<(), Refusal>
-    requires { InLimits (entries_in table.now) types (records_in records.now) count }
+fn form_refusal(table: &[u8], records: &[u8], edition: Edition, given: bool) -> Result<(), Refusal>
+    requires { InLimits (entries_in table.now) (records_in records.now) }
     ensures { Reports result (form_refusal (type_fields_meant given) (edition_meant edition) (entries_in table.now) (records_in records.now)) }
 {
-    fields::entries_refusal(table, types)?;
-    fields::fields_refusal(table, types, records, count, edition, given)?;
-    written_refusal(records, count, given)?;
-    links::links_refusal(records, count)?;
-    links::children_refusal(records, count)
+    fields::entries_refusal(table)?;
+    fields::fields_refusal(table, records, edition, given)?;
+    written_refusal(records, given)?;
+    links::links_refusal(records)?;
+    links::children_refusal(records)
 }
 
 // The refusal of a program for its length and its counts: 3, 4 and 5.
@@ -93,17 +86,12 @@ fn parts_refusal(program: &[u8], edition: Edition, given: bool) -> Result<(), Re
     requires { SizePasses program.now }
     ensures { Reports result (refusal_with (type_fields_meant given) (edition_meant edition) program.now) }
 {
-    let Parts {
-        types,
-        count,
-        table,
-        records,
-    } = parts::parts_of(program);
-    form_refusal(table, types, records, count, edition, given)?;
+    let Parts { table, records } = parts::parts_of(program);
+    form_refusal(table, records, edition, given)?;
     if !given {
         return Ok(());
     }
-    typing::types_refusal(table, records, count)
+    typing::types_refusal(table, records)
 }
 
 // The refusal of a program of the edition for its layout, before its types are looked at, which are omitted.

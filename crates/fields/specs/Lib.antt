@@ -1,5 +1,4 @@
 -- What the contracts of the crate cite.
-pub mod Sizes
 pub mod Fields
 pub mod BitSets
 pub mod Noting

@@ -30,8 +30,7 @@ pub record Notes (types : Table) (after : List ℕ) (n : ℕ) (r : Bool) : Type 
   pub noted : r ≡ true → Noted types after n
 
 -- A table of up to 256 entries can be scanned with a set of four words for each, and no more than for 256.
-pub record CanScanTable (types : Table) (words count : ℕ) : Type 0 where
-  pub counted : length types ≡ count
-  pub few : count ≤ 256
-  pub room : 4 * count ≤ words
+pub record CanScanTable (types : Table) (words : ℕ) : Type 0 where
+  pub few : length types ≤ 256
+  pub room : 4 * length types ≤ words
   pub most : words ≤ 1024

@@ -13,7 +13,6 @@ ghost use Rattle.records.specs.View.{entries_in, records_in};
 ghost use Rattle.records.specs.Meant.{entry_meant, record_meant};
 ghost use Rattle.refusals.specs.Reports.{Reports};
 ghost use Rattle.records.specs.Places.{Within};
-ghost use Rattle.fields.specs.Sizes.{Sized};
 ghost use Rattle.fields.specs.Fields.{FieldTested, FieldsTested};
 ghost use Rattle.fields.specs.BitSets.{Inserted};
 ghost use Rattle.fields.specs.Noting.{CanNote, Notes, CanScanTable};
@@ -67,10 +66,11 @@ fn entry_ok(table: &[u8], n: u16) -> bool
 }
 
 // Refusal 6, each entry compared with each earlier one.
-fn pairs_refusal(table: &[u8], types: u16) -> Result<(), Refusal>
-    requires { length (entries_in table.now) ≡ types }
-    ensures { Reports result (lowest (entry_rule (entries_in table.now)) bad_entry 1 types) }
+fn pairs_refusal(table: &[u8]) -> Result<(), Refusal>
+    requires { length (entries_in table.now) < 65536 }
+    ensures { Reports result (lowest (entry_rule (entries_in table.now)) bad_entry 1 (length (entries_in table.now))) }
 {
+    let types = records::entry_count(table);
     lowest_refusal(
         Reason::BadEntry,
         types,
@@ -108,10 +108,11 @@ fn note(table: &[u8], seen: &mut [u64], n: u16) -> bool
 }
 
 // Refusal 6, each entry looked up in the set of the parts noted, which has N words and is empty at first.
-fn set_refusal<const N: usize>(table: &[u8], types: u16) -> Result<(), Refusal>
-    requires { CanScanTable (entries_in table.now) N types }
-    ensures { Reports result (lowest (entry_rule (entries_in table.now)) bad_entry 1 types) }
+fn set_refusal<const N: usize>(table: &[u8]) -> Result<(), Refusal>
+    requires { CanScanTable (entries_in table.now) N }
+    ensures { Reports result (lowest (entry_rule (entries_in table.now)) bad_entry 1 (length (entries_in table.now))) }
 {
+    let types = records::entry_count(table);
     let mut seen = [0u64; N];
     for i in 0..types {
         let n = i + 1;
@@ -127,14 +128,14 @@ fn set_refusal<const N: usize>(table: &[u8], types: u16) -> Result<(), Refusal>
 
 // Refusal 6: the lowest entry that is bad. Few entries are sooner compared each with each than a set is cleared, more have a set of their size, and
 // none has a place for the parts of more than 256.
-pub fn entries_refusal(table: &[u8], types: u16) -> Result<(), Refusal>
-    requires { length (entries_in table.now) ≡ types }
-    ensures { Reports result (lowest (entry_rule (entries_in table.now)) bad_entry 1 types) }
+pub fn entries_refusal(table: &[u8]) -> Result<(), Refusal>
+    requires { length (entries_in table.now) < 65536 }
+    ensures { Reports result (lowest (entry_rule (entries_in table.now)) bad_entry 1 (length (entries_in table.now))) }
 {
-    match types {
-        17..=64 => set_refusal::<256>(table, types),
-        65..=256 => set_refusal::<1024>(table, types),
-        _ => pairs_refusal(table, types),
+    match records::entry_count(table) {
+        17..=64 => set_refusal::<256>(table),
+        65..=256 => set_refusal::<1024>(table),
+        _ => pairs_refusal(table),
     }
 }
 
@@ -175,15 +176,16 @@ fn fields_ok(types: u16, r: Record, edition: Edition, given: bool) -> bool
 // Refusal 7: the lowest record with a bad kind, type, a, b or value. Where types are not given, but omitted, it "doesn't look at the type field".
 pub fn fields_refusal(
     table: &[u8],
-    types: u16,
     records: &[u8],
-    count: u16,
     edition: Edition,
     given: bool,
 ) -> Result<(), Refusal>
-    requires { Sized (entries_in table.now) types (records_in records.now) count }
-    ensures { Reports result (lowest (λ n. fields_rule (type_fields_meant given) (edition_meant edition) (entries_in table.now) (record_no (records_in records.now) n)) bad_field 1 count) }
+    requires entries { length (entries_in table.now) < 65536 }
+    requires records { length (records_in records.now) < 65536 }
+    ensures { Reports result (lowest (λ n. fields_rule (type_fields_meant given) (edition_meant edition) (entries_in table.now) (record_no (records_in records.now) n)) bad_field 1 (length (records_in records.now))) }
 {
+    let types = records::entry_count(table);
+    let count = records::record_count(records);
     lowest_refusal(
         Reason::BadField,
         count,
@@ -195,10 +197,11 @@ pub fn fields_refusal(
 }
 
 // Refusal 13, where types are omitted: the lowest record with a nonzero type field.
-pub fn omitted_refusal(records: &[u8], count: u16) -> Result<(), Refusal>
-    requires { length (records_in records.now) ≡ count }
-    ensures { Reports result (lowest (omitted_rule omitted (records_in records.now)) type_written 1 count) }
+pub fn omitted_refusal(records: &[u8]) -> Result<(), Refusal>
+    requires { length (records_in records.now) < 65536 }
+    ensures { Reports result (lowest (omitted_rule omitted (records_in records.now)) type_written 1 (length (records_in records.now))) }
 {
+    let count = records::record_count(records);
     lowest_refusal(
         Reason::TypeWritten,
         count,

@@ -17,8 +17,6 @@ use Rattle.rules.proofs.Sums.{is_other, total_split, total_none}
 use Rattle.rules.proofs.Tree.{first_le, first_above, next_le, next_above}
 use Rattle.records.specs.declared.Record.{Record as Read}
 use Rattle.records.specs.Places.{IsRecord}
-use Rattle.records.proofs.Placing.{within_next}
-use Rattle.links.specs.Limits.{Limited}
 use Rattle.links.specs.Counters.{bumped, CanBump, CanJudge}
 use Rattle.links.proofs.Bumping.{bumped_length, bumped_at}
 
@@ -30,10 +28,10 @@ unfoldable pub naming_among : List Record → ℕ → ℕ → ℕ
 naming_among rs n m = total (links_to rs m) 1 n
 
 -- The links of the first n records are counted.
-pub record Counting (rs : List Record) (count n : ℕ) (counts : List ℕ) : Type 0 where
-  pub limited : Limited rs count
-  pub most : n ≤ count
-  pub room : count ≤ length counts
+pub record Counting (rs : List Record) (n : ℕ) (counts : List ℕ) : Type 0 where
+  pub few : length rs ≤ most_records
+  pub most : n ≤ length rs
+  pub room : length rs ≤ length counts
   pub at : (k : ℕ) → get_or counts k 0 ≡ naming_among rs n (k + 1)
 
 -- Links go up, so that only records before it name a record.
@@ -73,9 +71,9 @@ zero_each zero k = refl
 zero_each (suc n) zero = refl
 zero_each (suc n) (suc k) = zero_each n k
 
-pub count_starts : (rs : List Record) (count : ℕ) → Limited rs count → Counting rs count 0 (replicate most_records 0)
+pub count_starts : (rs : List Record) → length rs ≤ most_records → Counting rs 0 (replicate most_records 0)
 unfolding naming_among total
-count_starts rs count h = record { limited = h; most = omega arith; room = rw (length-replicate {A = ℕ} most_records 0) h.most; at = zero_each most_records }
+count_starts rs h = record { few = h; most = omega arith; room = rw (length-replicate {A = ℕ} most_records 0) h; at = zero_each most_records }
 
 -- r, record n as it was read, holds what its links name.
 pub record Names (rs : List Record) (n : ℕ) (r : Read) : Type 0 where
@@ -88,37 +86,38 @@ names_told rs n r b told kept e =
     record { first = ap (λ x. x.first) e.is ∙ h.0; next = ap (λ x. x.next) e.is ∙ h.1.0 }
 
 -- The next record of the pass, which can be judged and whose two links are counted.
-module _ (rs : List Record) (count n : ℕ) (counts : List ℕ) (c : Counting rs count n counts) (l : n < count) where
-  pub can_judge : CanJudge rs count counts (n + 1)
+module _ (rs : List Record) (n : ℕ) (counts : List ℕ) (c : Counting rs n counts) (l : n < length rs) where
+  pub can_judge : CanJudge rs counts (n + 1)
   can_judge = let p : n + 1 - 1 ≡ n = omega arith in record {
-    among = record { all = c.limited.all; within = within_next rs n count c.limited.all l };
+    few = omega (arith, c.few);
+    within = record { some = omega arith; most = omega arith };
     room = omega (arith, c.room);
-    counted = rw p (c.at n ∙ named_before rs n (omega (arith, c.limited.all)));
+    counted = rw p (c.at n ∙ named_before rs n l);
   }
 
   module _ (r : Read) (d : Names rs (n + 1) r) where
     pub first_counts : CanBump counts r.first
     first_counts = record {
-      room = omega (arith, d.first, first_le rs (n + 1), c.limited.all, c.room);
-      small = omega (arith, c.at (r.first - 1), naming_most rs n (r.first - 1 + 1), c.limited.most);
+      room = omega (arith, d.first, first_le rs (n + 1), c.room);
+      small = omega (arith, c.at (r.first - 1), naming_most rs n (r.first - 1 + 1), c.few);
     }
 
     module _ (counts₁ : List ℕ) (e : counts₁ ≡ bumped counts r.first) where
       at_first : (k : ℕ) → get_or counts₁ k 0 ≡ naming_among rs n (k + 1) + is (first_of rs (n + 1)) (k + 1)
       at_first k = ap (λ x. get_or x k 0) e ∙ bumped_at counts r.first first_counts.room k ∙ ap₂ (λ x y. x + is y (k + 1)) (c.at k) d.first
 
-      room_first : count ≤ length counts₁
+      room_first : length rs ≤ length counts₁
       room_first = omega (arith, c.room, ap length e ∙ bumped_length counts r.first)
 
       pub next_counts : CanBump counts₁ r.next
       next_counts = record {
-        room = omega (arith, d.next, next_le rs (n + 1), c.limited.all, room_first);
-        small = omega (arith, at_first (r.next - 1), naming_most rs n (r.next - 1 + 1), is_most (first_of rs (n + 1)) (r.next - 1 + 1), c.limited.most);
+        room = omega (arith, d.next, next_le rs (n + 1), room_first);
+        small = omega (arith, at_first (r.next - 1), naming_most rs n (r.next - 1 + 1), is_most (first_of rs (n + 1)) (r.next - 1 + 1), c.few);
       }
 
-      pub count_goes_on : (counts₂ : List ℕ) → counts₂ ≡ bumped counts₁ r.next → Counting rs count (n + 1) counts₂
+      pub count_goes_on : (counts₂ : List ℕ) → counts₂ ≡ bumped counts₁ r.next → Counting rs (n + 1) counts₂
       count_goes_on counts₂ g = record {
-        limited = c.limited;
+        few = c.few;
         most = omega arith;
         room = omega (arith, room_first, ap length g ∙ bumped_length counts₁ r.next);
         at = λ k. ap (λ x. get_or x k 0) g ∙ bumped_at counts₁ r.next next_counts.room k ∙ (omega (arith, at_first k, ap (λ x. is x (k + 1)) d.next, one_more rs n (k + 1)));

@@ -1,4 +1,3 @@
--- The laws by which the functions of the crate are proved, and what callers know of records that it passes.
+-- The laws by which the functions of the crate are proved.
 pub mod Bumping
 pub mod Counting
-pub mod Passed

@@ -3,7 +3,7 @@ use Rattle.std.specs.Prelude.{ℕ, ◌+◌, ◌-◌, ◌≤◌, ◌<◌, List, �
 use Rattle.rules.specs.Lists.{pick}
 use Rattle.rules.specs.Format.{Record}
 use Rattle.rules.specs.Check.{naming}
-use Rattle.links.specs.Limits.{Among}
+use Rattle.records.specs.Places.{Within}
 
 -- The counters when one more link names record m; 0 is no record.
 unfoldable pub bumped : List ℕ → ℕ → List ℕ
@@ -14,8 +14,9 @@ pub record CanBump (counts : List ℕ) (m : ℕ) : Type 0 where
   pub room : m ≤ length counts
   pub small : get_or counts (m - 1) 0 < 65535
 
--- There is a record n among `count` records, and the links that name it are counted.
-pub record CanJudge (rs : List Record) (count : ℕ) (counts : List ℕ) (n : ℕ) : Type 0 where
-  pub among : Among rs count n
+-- There is a record n among records that a number of 16 bits counts, and the links that name it are counted.
+pub record CanJudge (rs : List Record) (counts : List ℕ) (n : ℕ) : Type 0 where
+  pub few : length rs < 65536
+  pub within : Within rs n
   pub room : n ≤ length counts
   pub counted : get_or counts (n - 1) 0 ≡ naming rs n

@@ -1,4 +1,3 @@
 -- What the contracts of the crate cite.
-pub mod Limits
 pub mod Counters
 pub mod Chains

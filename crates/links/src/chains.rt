@@ -1,11 +1,12 @@
 // Refusal 9: a record with a wrong number of children. They are the chain from its first through their next.
-ghost use Rattle.std.specs.Prelude.{◌≡◌};
+ghost use Rattle.std.specs.Prelude.{◌≡◌, ◌<◌, length};
 ghost use Rattle.rules.specs.Conditions.{holds};
+ghost use Rattle.rules.specs.Links.{NoBadLink};
 ghost use Rattle.rules.specs.Refusals.{bad_children, lowest};
 ghost use Rattle.rules.specs.Check.{children_rule};
 ghost use Rattle.records.specs.View.{records_in};
 ghost use Rattle.refusals.specs.Reports.{Reports};
-ghost use Rattle.links.specs.Chains.{GoodLinks, Parent};
+ghost use Rattle.links.specs.Chains.{Parent};
 
 use kinds::Kind;
 use refusals::{Reason, Refusal, lowest_refusal};
@@ -34,10 +35,12 @@ fn children_ok(records: &[u8], n: u16) -> bool
 }
 
 // Refusal 9: the lowest record with a wrong number of children.
-pub fn children_refusal(records: &[u8], count: u16) -> Result<(), Refusal>
-    requires { GoodLinks (records_in records.now) count }
-    ensures { Reports result (lowest (children_rule (records_in records.now)) bad_children 1 count) }
+pub fn children_refusal(records: &[u8]) -> Result<(), Refusal>
+    requires few { length (records_in records.now) < 65536 }
+    requires linked { NoBadLink (records_in records.now) }
+    ensures { Reports result (lowest (children_rule (records_in records.now)) bad_children 1 (length (records_in records.now))) }
 {
+    let count = records::record_count(records);
     lowest_refusal(
         Reason::BadChildren,
         count,

@@ -1,14 +1,14 @@
 // Refusal 8: a record that holds a bad link, or one other than the root that is not named by exactly one link.
 // Good links are above their record's own number. So one pass in the records' order is enough: all links that may name a record are counted where
 // the pass comes to it.
-ghost use Rattle.std.specs.Prelude.{◌≡◌, eqb};
+ghost use Rattle.std.specs.Prelude.{◌≡◌, ◌≤◌, eqb, length};
 ghost use Rattle.rules.specs.Conditions.{holds};
+ghost use Rattle.rules.specs.Format.{most_records};
 ghost use Rattle.rules.specs.Links.{named};
 ghost use Rattle.rules.specs.Refusals.{lowest, bad_link};
 ghost use Rattle.rules.specs.Check.{links_rule};
 ghost use Rattle.records.specs.View.{records_in};
 ghost use Rattle.refusals.specs.Reports.{Reports};
-ghost use Rattle.links.specs.Limits.{Limited};
 ghost use Rattle.links.specs.Counters.{bumped, CanBump, CanJudge};
 
 use refusals::{Reason, Refusal};
@@ -21,10 +21,11 @@ fn link_ok(count: u16, n: u16, link: u16) -> bool
 }
 
 // Whether record `n` keeps the rule of links. Any next of the root is bad.
-fn links_ok(records: &[u8], count: u16, counts: &[u16], n: u16) -> bool
-    requires { CanJudge (records_in records.now) count counts.now n }
+fn links_ok(records: &[u8], counts: &[u16], n: u16) -> bool
+    requires { CanJudge (records_in records.now) counts.now n }
     ensures { result ≡ holds (links_rule (records_in records.now) n) }
 {
+    let count = records::record_count(records);
     let r = records::record_no(records, n);
     if !link_ok(count, n, r.first) {
         return false;
@@ -46,14 +47,15 @@ fn bump(counts: &mut [u16], m: u16)
 }
 
 // Refusal 8: the lowest record that breaks the rule of links. The links of each record that keeps it are counted.
-pub fn links_refusal(records: &[u8], count: u16) -> Result<(), Refusal>
-    requires { Limited (records_in records.now) count }
-    ensures { Reports result (lowest (links_rule (records_in records.now)) bad_link 1 count) }
+pub fn links_refusal(records: &[u8]) -> Result<(), Refusal>
+    requires { length (records_in records.now) ≤ most_records }
+    ensures { Reports result (lowest (links_rule (records_in records.now)) bad_link 1 (length (records_in records.now))) }
 {
+    let count = records::record_count(records);
     let mut counts = [0u16; kinds::MOST_RECORDS as usize];
     for i in 0..count {
         let n = i + 1;
-        if !links_ok(records, count, &counts, n) {
+        if !links_ok(records, &counts, n) {
             return Err(Refusal {
                 reason: Reason::BadLink,
                 place: n,

@@ -256,21 +256,18 @@ module _ (types : Table) (rs : List Record) (bs : List ℕ) (d l n left : ℕ) (
                     }
 
 -- The walk from the root: its tree has all the records.
-pub root_asked : (rs : List Record) (bs : List ℕ) (count : ℕ) → MakeTree rs count → 2 * count ≤ length bs → CanWalk rs bs 0 1 count
-root_asked rs bs count h room =
-    let some : 1 ≤ length rs = omega (arith, h.all, h.real) in
-    let whole = whole_size rs (holds_lowest _ bad_children 1 (length rs) h.chained) (holds_lowest _ bad_link 1 (length rs) h.linked) some in
+pub root_asked : (rs : List Record) (bs : List ℕ) → MakeTree rs → 2 * length rs ≤ length bs → CanWalk rs bs 0 1 (length rs)
+root_asked rs bs h room =
+    let whole = whole_size rs (holds_lowest _ bad_children 1 (length rs) h.chained) (holds_lowest _ bad_link 1 (length rs) h.linked) h.real in
     record {
-      here = record { linked = no_bad_link rs h.linked; real = omega arith; within = some };
+      here = record { linked = no_bad_link rs h.linked; real = omega arith; within = h.real };
       chained = h.chained;
-      enough = omega (arith, whole, h.all);
+      enough = omega (arith, whole);
       most = h.most;
       room = omega arith;
     }
 
-pub root_told : (types : Table) (rs : List Record) (bs bs' : List ℕ) (count p : ℕ) (v : Result Unit Reported) → MakeTree rs count → Walks types rs bs bs' 0 0 1 count p
-    → Unpacks p v → Reports v (walked count types rs [] 0 1)
+pub root_told : (types : Table) (rs : List Record) (bs bs' : List ℕ) (left p : ℕ) (v : Result Unit Reported) → Walks types rs bs bs' 0 0 1 left p → Unpacks p v
+    → Reports v (walked (length rs) types rs [] 0 1)
 unfolding stack
-root_told types rs bs bs' count p v h walk u =
-    let told : refusal_in p ≡ walked count types rs [] 0 1 = rw (← h.all) walk.tells in
-    unpacked p v _ u (walked_of_judging count types rs [] 0 1) told
+root_told types rs bs bs' left p v walk u = unpacked p v _ u (walked_of_judging (length rs) types rs [] 0 1) walk.tells

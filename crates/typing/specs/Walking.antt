@@ -67,10 +67,9 @@ pub record Walks (types : Table) (rs : List Record) (bs bs' : List ℕ) (depth l
   pub counted : q < 65536 → q + tree_size rs n ≡ left
   pub kept : stack bs' depth ≡ stack bs depth
 
--- The records of a whole program, `count` of them, make one tree: 8 and 9 pass them.
-pub record MakeTree (rs : List Record) (count : ℕ) : Type 0 where
+-- The records of a whole program make one tree: 8 and 9 pass them.
+pub record MakeTree (rs : List Record) : Type 0 where
   pub linked : lowest (links_rule rs) bad_link 1 (length rs) ≡ none
   pub chained : lowest (children_rule rs) bad_children 1 (length rs) ≡ none
-  pub all : length rs ≡ count
-  pub real : 1 ≤ count
-  pub most : count ≤ most_records
+  pub real : 1 ≤ length rs
+  pub most : length rs ≤ most_records

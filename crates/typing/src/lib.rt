@@ -221,24 +221,25 @@ fn walk(
 }
 
 // The first fault in the tree of record 1, the root, at level 0 under no binders. There is room for N binders, two of each record.
-fn root_refusal<const N: usize>(table: &[u8], records: &[u8], count: u16) -> Result<(), Refusal>
-    requires whole { MakeTree (records_in records.now) count }
-    requires room { 2 * count ≤ N }
+fn root_refusal<const N: usize>(table: &[u8], records: &[u8]) -> Result<(), Refusal>
+    requires whole { MakeTree (records_in records.now) }
+    requires room { 2 * length (records_in records.now) ≤ N }
     requires small { N ≤ 4096 }
-    ensures { Reports result (walked count (entries_in table.now) (records_in records.now) [] 0 1) }
+    ensures { Reports result (walked (length (records_in records.now)) (entries_in table.now) (records_in records.now) [] 0 1) }
 {
+    let count = records::record_count(records);
     let mut binders = [0u32; N];
     verdict_in(walk(table, records, &mut binders, 0, 0, 1, count))
 }
 
 // The same. A smaller program has a smaller stack, which is sooner cleared.
-pub fn types_refusal(table: &[u8], records: &[u8], count: u16) -> Result<(), Refusal>
-    requires { MakeTree (records_in records.now) count }
-    ensures { Reports result (walked count (entries_in table.now) (records_in records.now) [] 0 1) }
+pub fn types_refusal(table: &[u8], records: &[u8]) -> Result<(), Refusal>
+    requires { MakeTree (records_in records.now) }
+    ensures { Reports result (walked (length (records_in records.now)) (entries_in table.now) (records_in records.now) [] 0 1) }
 {
-    match count {
-        0..=64 => root_refusal::<128>(table, records, count),
-        65..=512 => root_refusal::<1024>(table, records, count),
-        _ => root_refusal::<4096>(table, records, count),
+    match records::record_count(records) {
+        0..=64 => root_refusal::<128>(table, records),
+        65..=512 => root_refusal::<1024>(table, records),
+        _ => root_refusal::<4096>(table, records),
     }
 }

@@ -1,6 +1,4 @@
 // What infer and run answer and write, as text: a line of the answer's fields, a line for each type entry, and one for each record.
-ghost use Rattle.std.specs.Prelude.{◌<◌};
-
 use engine::{InferAnswer, RunAnswer};
 use std::io;
 
@@ -22,57 +20,55 @@ fn long_number_at(bytes: &[u8], at: usize) -> u32 {
     }
 }
 
-// The line of type entry n, which stands at `at`.
-fn print_entry(rt: &impl Print, bytes: &[u8], at: usize, n: u16) -> io::Result<()>
-    requires { at < 2000000 }
-{
+// The line of type entry n, which these bytes are.
+fn print_entry(rt: &impl Print, entry: &[u8], n: usize) -> io::Result<()> {
     println!(rt;
         "type {n} {} {} {}",
-        number_at(bytes, at),
-        number_at(bytes, at + 2),
-        number_at(bytes, at + 4)
+        number_at(entry, 0),
+        number_at(entry, 2),
+        number_at(entry, 4)
     )
 }
 
-// The line of record n, which stands at `at`.
-fn print_record(rt: &impl Print, bytes: &[u8], at: usize, n: u16) -> io::Result<()>
-    requires { at < 2000000 }
-{
+// The line of record n, which these bytes are.
+fn print_record(rt: &impl Print, record: &[u8], n: usize) -> io::Result<()> {
     println!(rt;
         "{n} {} {} {} {} {} {} {}",
-        number_at(bytes, at),
-        number_at(bytes, at + 2),
-        number_at(bytes, at + 4),
-        number_at(bytes, at + 6),
-        number_at(bytes, at + 8),
-        number_at(bytes, at + 10),
-        long_number_at(bytes, at + 12)
+        number_at(record, 0),
+        number_at(record, 2),
+        number_at(record, 4),
+        number_at(record, 6),
+        number_at(record, 8),
+        number_at(record, 10),
+        long_number_at(record, 12)
     )
 }
 
-// The lines of the type entries of a written program.
-fn print_entries(rt: &impl Print, bytes: &[u8], types: u16) -> io::Result<()> {
-    for i in 0..types {
-        print_entry(rt, bytes, 4 + 6 * usize::from(i), i + 1)?;
+// The lines of the type entries of a table.
+fn print_entries(rt: &impl Print, table: &[u8]) -> io::Result<()> {
+    for (i, entry) in table.chunks_exact(6).enumerate() {
+        print_entry(rt, entry, i + 1)?;
     }
     Ok(())
 }
 
-// The lines of its records, after so many entries.
-fn print_records(rt: &impl Print, bytes: &[u8], types: u16, count: u16) -> io::Result<()> {
-    for i in 0..count {
-        let at = 4 + 6 * usize::from(types) + 16 * usize::from(i);
-        print_record(rt, bytes, at, i + 1)?;
+// The lines of records.
+fn print_records(rt: &impl Print, records: &[u8]) -> io::Result<()> {
+    for (i, record) in records.chunks_exact(16).enumerate() {
+        print_record(rt, record, i + 1)?;
     }
     Ok(())
 }
 
-// The lines of a written program's type table and records.
+// The lines of the type table and the records of a written program, which other bytes may follow.
 fn print_program(rt: &impl Print, bytes: &[u8]) -> io::Result<()> {
-    let types = number_at(bytes, 0);
-    let count = number_at(bytes, 2);
-    print_entries(rt, bytes, types)?;
-    print_records(rt, bytes, types, count)
+    let middle = 4 + 6 * usize::from(number_at(bytes, 0));
+    let end = middle + 16 * usize::from(number_at(bytes, 2));
+    if let (Some(table), Some(records)) = (bytes.get(4..middle), bytes.get(middle..end)) {
+        print_entries(rt, table)?;
+        print_records(rt, records)?;
+    }
+    Ok(())
 }
 
 // The line of infer's answer.

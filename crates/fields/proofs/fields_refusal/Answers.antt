@@ -1,4 +1,5 @@
 -- What the closure ensures of each record's test is handed to `lowest_found`.
+use Rattle.std.proofs.Common.{sym}
 use Rattle.rules.specs.Format.{record_no}
 use Rattle.kinds.specs.Meant.{edition_meant, type_fields_meant}
 use Rattle.records.specs.View.{entries_in, records_in}
@@ -9,5 +10,5 @@ use Rattle.fields.proofs.fields_refusal.Goals as goal
 pub returns : goal.returns
 returns c =
     let a = c.args in
-    lowest_found _ (λ n b. FieldsTested (type_fields_meant a.given) (edition_meant a.edition) a.types (record_no (records_in a.records.now) n) b) _ _ _
-    (λ n b p q h. h.is (entries_in a.table.now) c.requires.entries) c.lowest_refusal.ensures
+    rw (← c.record_count-count.ensures) (lowest_found _ (λ n b. FieldsTested (type_fields_meant a.given) (edition_meant a.edition) c.entry_count-types.result (record_no (records_in a.records.now) n) b) _ _ _
+    (λ n b p q h. h.is (entries_in a.table.now) (sym c.entry_count-types.ensures)) c.lowest_refusal.ensures)

@@ -7,4 +7,4 @@ use Rattle.refusals.proofs.Reporting.{lowest_found}
 use Rattle.fields.proofs.pairs_refusal.Goals as goal
 
 pub returns : goal.returns
-returns c = lowest_found _ (λ n b. b ≡ holds (entry_rule (entries_in c.args.table.now) n)) _ _ _ (λ n b p q h. h) c.lowest_refusal.ensures
+returns c = rw (← c.entry_count-types.ensures) (lowest_found _ (λ n b. b ≡ holds (entry_rule (entries_in c.args.table.now) n)) _ _ _ (λ n b p q h. h) c.lowest_refusal.ensures)

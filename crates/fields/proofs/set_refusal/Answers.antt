@@ -10,7 +10,7 @@ pub whole_as_slice-note : goal.whole_as_slice-note
 whole_as_slice-note g c = omega (arith, c.requires.most)
 
 pub returns-then-not-note : goal.returns-then-not-note
-returns-then-not-note g c = one_lowest _ _ 1 c.args.types _ (omega arith) (omega arith) (sym c.note.ensures.told ∙ c.if-not-note.true) (λ n p q. c.loop-i.invariant.passed n p (omega arith))
+returns-then-not-note g c = rw (← c.entry_count-types.ensures) (one_lowest _ _ 1 _ _ (omega arith) (omega arith) (sym c.note.ensures.told ∙ c.if-not-note.true) (λ n p q. c.loop-i.invariant.passed n p (omega arith)))
 
 pub returns : goal.returns
-returns g c = none_lowest _ _ 1 c.args.types (λ n p q. c.loop-i.invariant.passed n p (omega arith))
+returns g c = rw (← c.entry_count-types.ensures) (none_lowest _ _ 1 _ (λ n p q. c.loop-i.invariant.passed n p (omega arith)))

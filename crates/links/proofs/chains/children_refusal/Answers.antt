@@ -7,4 +7,4 @@ use Rattle.refusals.proofs.Reporting.{lowest_found}
 use Rattle.links.proofs.chains.children_refusal.Goals as goal
 
 pub returns : goal.returns
-returns c = lowest_found _ (λ n b. b ≡ holds (children_rule (records_in c.args.records.now) n)) _ _ _ (λ n b p q h. h) c.lowest_refusal.ensures
+returns c = rw (← c.record_count-count.ensures) (lowest_found _ (λ n b. b ≡ holds (children_rule (records_in c.args.records.now) n)) _ _ _ (λ n b p q h. h) c.lowest_refusal.ensures)

@@ -5,7 +5,7 @@ use Rattle.links.proofs.Counting.{counting, count_starts}
 use Rattle.links.proofs.naming.links_refusal.Goals as goal
 
 pub loop-i-init : goal.loop-i-init
-loop-i-init c = record { counting = count_starts _ _ c.requires; passed = λ n p q. absurd (omega arith) }
+loop-i-init c = record { counting = count_starts _ c.requires; passed = λ n p q. absurd (omega arith) }
 
 pub links_ok-requires : goal.links_ok-requires
 links_ok-requires c = search (counting, rules)
@@ -26,7 +26,7 @@ loop-i-preserved c = record {
 }
 
 pub returns-then-not-links_ok : goal.returns-then-not-links_ok
-returns-then-not-links_ok c = one_lowest _ _ 1 c.args.count _ (omega arith) (omega arith) (sym c.links_ok.ensures ∙ c.if-not-links_ok.true) (λ n p q. c.loop-i.invariant.passed n p (omega arith))
+returns-then-not-links_ok c = rw (← c.record_count-count.ensures) (one_lowest _ _ 1 _ _ (omega arith) (omega arith) (sym c.links_ok.ensures ∙ c.if-not-links_ok.true) (λ n p q. c.loop-i.invariant.passed n p (omega arith)))
 
 pub returns : goal.returns
-returns c = none_lowest _ _ 1 c.args.count (λ n p q. c.loop-i.invariant.passed n p (omega arith))
+returns c = rw (← c.record_count-count.ensures) (none_lowest _ _ 1 _ (λ n p q. c.loop-i.invariant.passed n p (omega arith)))

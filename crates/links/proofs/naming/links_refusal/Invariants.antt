@@ -8,6 +8,6 @@ use Rattle.links.proofs.naming.links_refusal.Given as goal
 
 abbrev pub invariant-loop-i : goal.invariant-loop-i
 invariant-loop-i l = record {
-  counting : Counting (records_in l.records) l.count l.i l.counts;
+  counting : Counting (records_in l.records) l.i l.counts;
   passed : (n : ℕ) → 1 ≤ n → n ≤ l.i → holds (links_rule (records_in l.records) n) ≡ true;
 }
