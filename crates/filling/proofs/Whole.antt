@@ -20,19 +20,16 @@ use Rattle.typing.specs.Walking.{tree_size}
 use Rattle.filling.specs.declared.Progress.{Progress}
 use Rattle.filling.specs.Filling.{firsts, types_at, size_at, CanFill, Filled, Fills, CanFillAll, FilledAll, FillsAll}
 
-module _ (rs : List Record) (count : ℕ) (es : Table) (types : ℕ) (gs : List ℕ) (h : CanFillAll rs count es types gs) where
-  some : 1 ≤ length rs
-  some = omega (arith, h.tree.all, h.tree.real)
-
+module _ (rs : List Record) (es : Table) (types : ℕ) (gs : List ℕ) (h : CanFillAll rs es types gs) where
   whole : tree_size rs 1 ≡ length rs
-  whole = whole_size rs (holds_lowest _ bad_children 1 (length rs) h.tree.chained) (holds_lowest _ bad_link 1 (length rs) h.tree.linked) some
+  whole = whole_size rs (holds_lowest _ bad_children 1 (length rs) h.tree.chained) (holds_lowest _ bad_link 1 (length rs) h.tree.linked) h.tree.real
 
-  pub root_asked : (bs : List ℕ) → 2 * count ≤ length bs → CanFill rs es gs bs 0 1 types count
+  pub root_asked : (bs : List ℕ) → 2 * length rs ≤ length bs → CanFill rs es gs bs 0 1 types (length rs)
   unfolding stack
   root_asked bs room = record {
-    here = record { linked = no_bad_link rs h.tree.linked; real = omega arith; within = some };
+    here = record { linked = no_bad_link rs h.tree.linked; real = omega arith; within = h.tree.real };
     chained = h.tree.chained;
-    enough = omega (arith, whole, h.tree.all);
+    enough = omega (arith, whole);
     most = h.tree.most;
     binders = omega arith;
     table = h.table;
@@ -42,18 +39,18 @@ module _ (rs : List Record) (count : ℕ) (es : Table) (types : ℕ) (gs : List 
   }
 
   -- The types before none are none, and those before the last are all.
-  all_types : (gs' : List ℕ) (q : ℕ) (t : Term) → q ≡ 0 → firsts gs' q ≡ firsts gs count ++ types_at 1 t → gs' ≡ types_of t
+  all_types : (gs' : List ℕ) (q : ℕ) (t : Term) → q ≡ 0 → firsts gs' q ≡ firsts gs (length rs) ++ types_at 1 t → gs' ≡ types_of t
   unfolding firsts types_at
   all_types gs' q t z e =
-      let front : length gs - count ≡ 0 = omega (arith, h.given) in
+      let front : length gs - length rs ≡ 0 = omega (arith, h.given) in
       let back : length gs' - q ≡ length gs' = omega arith in
       sym (ap (λ n. take n gs') back ∙ take-length gs') ∙ e ∙ ap (λ n. take n gs ++ types_of t) front
 
-  pub root_filled : (es' : Table) (gs' bs bs' : List ℕ) (r : Result Progress Refusal) → Fills rs es es' gs gs' bs bs' 0 0 1 types count r → FillsAll rs count es es' types gs' r
+  pub root_filled : (es' : Table) (gs' bs bs' : List ℕ) (r : Result Progress Refusal) → Fills rs es es' gs gs' bs bs' 0 0 1 types (length rs) r → FillsAll rs es es' types gs' r
   unfolding stack size_at
-  root_filled es' gs' bs bs' r f = rw (← h.tree.all) (record { reports = f.reports; done = by_result r f.done; room = f.room })
+  root_filled es' gs' bs bs' r f = record { reports = f.reports; done = by_result r f.done; room = f.room }
     where
-      by_result : (r : Result Progress Refusal) → IfOk r (Filled rs es' gs gs' 1 count (inferred_from (length rs) (take types es) rs [] 0 1))
+      by_result : (r : Result Progress Refusal) → IfOk r (Filled rs es' gs gs' 1 (length rs) (inferred_from (length rs) (take types es) rs [] 0 1))
           → IfOk r (FilledAll es' gs' (inferred_from (length rs) (take types es) rs [] 0 1))
-      by_result (Ok q) d = record { term = d.term; is = d.is; few = d.few; type = d.type; types = all_types gs' q.left d.term (omega (arith, d.counted, whole, h.tree.all)) d.types }
+      by_result (Ok q) d = record { term = d.term; is = d.is; few = d.few; type = d.type; types = all_types gs' q.left d.term (omega (arith, d.counted, whole)) d.types }
       by_result (Err e) d = tt

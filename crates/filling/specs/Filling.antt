@@ -112,12 +112,12 @@ pub record Settles (rs : List Record) (es es' : Table) (gs gs' bs : List ℕ) (d
   pub given : IfOk assigned (λ held. gs' ≡ set gs (length gs - left) held.number)
   pub told : r ≡ settled done.left assigned
 
--- The records of a whole program, `count` of them, make one tree; 6 and 7 pass them; there is room for a 257th entry, and for the types.
-pub record CanFillAll (rs : List Record) (count : ℕ) (es : Table) (types : ℕ) (gs : List ℕ) : Type 0 where
-  pub tree : MakeTree rs count
+-- The records of a whole program make one tree; 6 and 7 pass them; there is room for a 257th entry, and for the types.
+pub record CanFillAll (rs : List Record) (es : Table) (types : ℕ) (gs : List ℕ) : Type 0 where
+  pub tree : MakeTree rs
   pub table : most_types < length es
   pub few : types ≤ most_types
-  pub given : length gs ≡ count
+  pub given : length gs ≡ length rs
   pub infers : CanInfer rs (take types es) []
 
 -- The root's tree is filled as the inference o has it: gs are its types.
@@ -129,7 +129,7 @@ pub record FilledAll (es : Table) (gs : List ℕ) (o : Inference) (r : Progress)
   pub types : gs ≡ types_of term
 
 -- r reports the fault of the inference of the root, or its tree is filled.
-pub record FillsAll (rs : List Record) (count : ℕ) (es es' : Table) (types : ℕ) (gs : List ℕ) (r : Result Progress Refusal) : Type 0 where
-  pub reports : Reports r (fault_of (inferred_from count (take types es) rs [] 0 1))
-  pub done : IfOk r (FilledAll es' gs (inferred_from count (take types es) rs [] 0 1))
+pub record FillsAll (rs : List Record) (es es' : Table) (types : ℕ) (gs : List ℕ) (r : Result Progress Refusal) : Type 0 where
+  pub reports : Reports r (fault_of (inferred_from (length rs) (take types es) rs [] 0 1))
+  pub done : IfOk r (FilledAll es' gs (inferred_from (length rs) (take types es) rs [] 0 1))
   pub room : length es' ≡ length es

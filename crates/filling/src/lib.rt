@@ -3,7 +3,7 @@
 // the record's number in preorder, so that a tree's are together.
 #![tactic(auto)]
 
-ghost use Rattle.std.specs.Prelude.{◌*◌, ◌≤◌};
+ghost use Rattle.std.specs.Prelude.{◌*◌, ◌≤◌, length};
 ghost use Rattle.records.specs.View.{entries_in, records_in};
 ghost use Rattle.filling.specs.Filling.{CanFill, Fills, CanFillChild, CanSettle, Settles, CanFillAll, FillsAll};
 
@@ -117,16 +117,16 @@ fn fill(
 // Gives each record of the tree of record 1, the root, its type, at level 0 under no binders, with a stack of room for N of them, two a record.
 fn fill_in<const N: usize>(
     records: &[u8],
-    count: u16,
     table: &mut [u8],
     types: u16,
     given: &mut [u16],
 ) -> Result<Progress, Refusal>
-    requires can_fill { CanFillAll (records_in records.now) count (entries_in table.old) types given.old }
-    requires enough_room { 2 * count ≤ N }
+    requires can_fill { CanFillAll (records_in records.now) (entries_in table.old) types given.old }
+    requires enough_room { 2 * length (records_in records.now) ≤ N }
     requires fits_a_stack { N ≤ 4096 }
-    ensures { FillsAll (records_in records.now) count (entries_in table.old) (entries_in table.new) types given.new result }
+    ensures { FillsAll (records_in records.now) (entries_in table.old) (entries_in table.new) types given.new result }
 {
+    let count = records::record_count(records);
     let mut binders = [0u32; N];
     fill(records, 1, 0, &mut binders, 0, table, given, types, count)
 }
@@ -134,17 +134,16 @@ fn fill_in<const N: usize>(
 // The same. A smaller program has a smaller stack, which is sooner cleared.
 pub fn fill_all(
     records: &[u8],
-    count: u16,
     table: &mut [u8],
     types: u16,
     given: &mut [u16],
 ) -> Result<Progress, Refusal>
-    requires { CanFillAll (records_in records.now) count (entries_in table.old) types given.old }
-    ensures { FillsAll (records_in records.now) count (entries_in table.old) (entries_in table.new) types given.new result }
+    requires { CanFillAll (records_in records.now) (entries_in table.old) types given.old }
+    ensures { FillsAll (records_in records.now) (entries_in table.old) (entries_in table.new) types given.new result }
 {
-    match count {
-        0..=64 => fill_in::<128>(records, count, table, types, given),
-        65..=512 => fill_in::<1024>(records, count, table, types, given),
-        _ => fill_in::<4096>(records, count, table, types, given),
+    match records::record_count(records) {
+        0..=64 => fill_in::<128>(records, table, types, given),
+        65..=512 => fill_in::<1024>(records, table, types, given),
+        _ => fill_in::<4096>(records, table, types, given),
     }
 }
