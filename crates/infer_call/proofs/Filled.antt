@@ -9,10 +9,9 @@ use lib.Seq.{length-take-le, take_at}
 use Rattle.std.specs.Prelude.{Result, Ok, Err}
 use Rattle.rules.specs.Editions.{first_edition}
 use Rattle.rules.specs.FieldUses.{omitted}
-use Rattle.rules.specs.Format.{table_of, records_of}
 use Rattle.rules.specs.Meets.{MeetsLayout}
 use Rattle.rules.specs.Refusals.{Refusal as MeantRefusal}
-use Rattle.rules.proofs.Meaning.{layout_exactly, records_counted}
+use Rattle.rules.proofs.Meaning.{layout_exactly}
 use Rattle.inference.specs.Inference.{Inference, faulty, filled, unless_refused, inferred_from}
 use Rattle.inference.specs.Infer.{answer_of, output_of, inference}
 use Rattle.records.specs.Overwritten.{overwritten}
@@ -38,20 +37,19 @@ fault_is (faulty q) r e = ap faulty (some_is e)
 fault_is (filled A t) r e = let z : ◌≡◌ {A = ℕ} 0 1 = cc in absurd (omega arith)
 
 module _ (p out work table given : List ℕ) (h : CanTypeWith p out work table given) (parts : Parts) (a : ArePartsOf p parts)
-    (tb : List ℕ) (copied : tb ≡ overwritten table 0 parts.table.now) (tb' gs : List ℕ) where
+    (tb : List ℕ) (copied : tb ≡ overwritten table 0 parts.table.now) (types : ℕ) (k : types ≡ length (entries_in parts.table.now)) (tb' gs : List ℕ) where
   abbrev Ends : Result Progress Refusal → Type 0
-  Ends = FillsAll (records_in parts.records.now) parts.count (entries_in tb) (entries_in tb') parts.types gs
+  Ends = FillsAll (records_in parts.records.now) (entries_in tb) (entries_in tb') types gs
 
   m : MeetsLayout omitted first_edition p
   m = h.can.layout
 
   -- The walk from the root is the program's inference.
-  inferred_is : inferred_from parts.count (take parts.types (entries_in tb)) (records_in parts.records.now) [] 0 1 ≡ inference first_edition p
+  inferred_is : inferred_from (length (records_in parts.records.now)) (take types (entries_in tb)) (records_in parts.records.now) [] 0 1 ≡ inference first_edition p
   unfolding inference unless_refused
   inferred_is =
       rw ((layout_exactly omitted first_edition p).1 m)
-      (rw (a.records_are, table_front p out work table given h parts a tb copied)
-      (ap (λ n. inferred_from n (table_of p) (records_of p) [] 0 1) (a.count ∙ sym (records_counted p))))
+      (rw (a.records_are, table_front p out work table given h parts a tb copied types k))
 
   -- A fault is the answer, and nothing is changed.
   pub type_faulty : (q : Refusal) → Ends (Err q) → (r : InferAnswer) → infer_meant r ≡ refused_by q → Types p out out work work r
@@ -61,11 +59,11 @@ module _ (p out work table given : List ℕ) (h : CanTypeWith p out work table g
       record { answer = e ∙ ap answer_of (sym o); output = ap (λ i. output_of i out) (sym o); faulted = λ q d. refl }
 
   -- The types stand at the front of their array.
-  pub can_write : (q : Progress) → Ends (Ok q) → length tb' ≡ length tb → length gs ≡ length (take parts.count given)
-      → CanWriteFilled p out work tb' (gs ++ drop parts.count given) q
-  can_write q fills same kept =
+  pub can_write : (count : ℕ) → count ≡ length (records_in parts.records.now) → (q : Progress) → Ends (Ok q) → length tb' ≡ length tb → length gs ≡ length (take count given)
+      → CanWriteFilled p out work tb' (gs ++ drop count given) q
+  can_write count e q fills same kept =
       let done = fills.done in
-      let long : length gs ≡ parts.count = kept ∙ length-take-le parts.count given (types_fit p out work table given h parts a) in
+      let long : length gs ≡ count = kept ∙ length-take-le count given (types_fit p out work table given h parts a count e) in
       let all : length tb ≡ length table = ap length copied ∙ overwritten_length table 0 _ (part_fits p out work table given h parts a) in
       record {
         can = h.can;
@@ -74,6 +72,6 @@ module _ (p out work table given : List ℕ) (h : CanTypeWith p out work table g
         few = done.few;
         entries = same ∙ all ∙ h.entries;
         type = done.type;
-        room = omega (arith, length-append gs (drop parts.count given), long, a.count);
-        types = ap (λ n. take n (gs ++ drop parts.count given)) (sym a.count) ∙ take_at gs (drop parts.count given) parts.count long ∙ done.types;
+        room = omega (arith, length-append gs (drop count given), long, a.records_counted);
+        types = ap (λ n. take n (gs ++ drop count given)) (sym (e ∙ a.records_counted)) ∙ take_at gs (drop count given) count long ∙ done.types;
       }

@@ -30,54 +30,56 @@ module _ (p out work table given : List ℕ) (h : CanTypeWith p out work table g
   m = h.can.layout
 
   module _ (parts : Parts) (a : ArePartsOf p parts) where
-    pub types_fit : parts.count ≤ length given
-    types_fit = omega (arith, m.counts.1.0, h.types, a.count)
-
-    pub types_few : parts.types ≤ most_types
-    types_few = omega (arith, m.counts.0, a.types)
-
     -- The table fits the buffer in which it grows.
     pub part_fits : 0 + length parts.table.now ≤ length table
-    part_fits = omega (arith, a.table_long, types_few, h.entries)
+    part_fits = omega (arith, a.table_long, m.counts.0, h.entries)
 
-    pub given_long : parts.count ≡ length (take parts.count given)
-    given_long = sym (length-take-le parts.count given types_fit)
-
-    pub whole : MakeTree (records_in parts.records.now) parts.count
-    whole = rw (a.records_are, a.count) (record {
+    whole : MakeTree (records_in parts.records.now)
+    whole = rw a.records_are (record {
       linked = lowest_holds _ bad_link 1 (length (records_of p)) m.form.linked;
       chained = lowest_holds _ bad_children 1 (length (records_of p)) m.form.chained;
-      all = records_counted p;
-      real = m.counts.1.0.0;
-      most = m.counts.1.0.1;
+      real = omega (arith, records_counted p, m.counts.1.0);
+      most = omega (arith, records_counted p, m.counts.1.0);
     })
 
+    module _ (count : ℕ) (k : count ≡ length (records_in parts.records.now)) where
+      pub types_fit : count ≤ length given
+      types_fit = omega (arith, m.counts.1.0, h.types, a.records_counted)
+
+      pub given_long : count ≡ length (take count given)
+      given_long = sym (length-take-le count given types_fit)
+
     module _ (tb : List ℕ) (copied : tb ≡ overwritten table 0 parts.table.now) where
-      pub buffer_long : length (entries_in tb) ≡ suc most_types
+      buffer_long : length (entries_in tb) ≡ suc most_types
       buffer_long =
           let l : length tb ≡ 6 * suc most_types = ap length copied ∙ overwritten_length table 0 parts.table.now part_fits ∙ h.entries in
           entries_length tb ∙ ap (λ n. n / 6) l
 
-      -- The table stands at the front.
-      pub table_front : take parts.types (entries_in tb) ≡ table_of p
-      unfolding overwritten
-      table_front =
-          let front : take (6 * parts.types) tb ≡ parts.table.now = ap (take (6 * parts.types)) copied ∙ take_at parts.table.now _ (6 * parts.types) a.table_long in
-          let fits : 6 * parts.types ≤ length tb = omega (arith, entries_length tb, buffer_long, types_few) in
-          sym (entries_front tb parts.types fits) ∙ ap entries_in front ∙ a.entries_are
+      module _ (types : ℕ) (e : types ≡ length (entries_in parts.table.now)) where
+        types_few : types ≤ most_types
+        types_few = omega (arith, m.counts.0, a.entries_counted)
 
-      infers : CanInfer (records_in parts.records.now) (take parts.types (entries_in tb)) []
-      infers =
-          let good = layout_table omitted first_edition p m in
-          rw (a.records_are, table_front) (record {
-            first = table_of p;
-            begins = begins_itself (table_of p);
-            some = good.some;
-            few = good.few;
-            entries = good.entries;
-            fielded = λ n i j. (m.form.fielded n i j).1.1;
-            bound = tt;
-          })
+        -- The table stands at the front.
+        pub table_front : take types (entries_in tb) ≡ table_of p
+        unfolding overwritten
+        table_front =
+            let long : length parts.table.now ≡ 6 * types = omega (arith, a.table_long, a.entries_counted) in
+            let front : take (6 * types) tb ≡ parts.table.now = ap (take (6 * types)) copied ∙ take_at parts.table.now _ (6 * types) long in
+            let fits : 6 * types ≤ length tb = omega (arith, entries_length tb, buffer_long, types_few) in
+            sym (entries_front tb types fits) ∙ ap entries_in front ∙ a.entries_are
 
-      pub fill_asked : CanFillAll (records_in parts.records.now) parts.count (entries_in tb) parts.types (take parts.count given)
-      fill_asked = record { tree = whole; table = omega (arith, buffer_long); few = types_few; given = sym given_long; infers = infers }
+        infers : CanInfer (records_in parts.records.now) (take types (entries_in tb)) []
+        infers =
+            let good = layout_table omitted first_edition p m in
+            rw (a.records_are, table_front) (record {
+              first = table_of p;
+              begins = begins_itself (table_of p);
+              some = good.some;
+              few = good.few;
+              entries = good.entries;
+              fielded = λ n i j. (m.form.fielded n i j).1.1;
+              bound = tt;
+            })
+
+        pub fill_asked : (count : ℕ) → count ≡ length (records_in parts.records.now) → CanFillAll (records_in parts.records.now) (entries_in tb) types (take count given)
+        fill_asked count k = record { tree = whole; table = omega (arith, buffer_long); few = types_few; given = sym (given_long count k) ∙ k; infers = infers }

@@ -13,7 +13,7 @@ use Rattle.rules.specs.FieldUses.{omitted}
 use Rattle.rules.specs.Format.{most_types, table_of, records_of}
 use Rattle.rules.specs.Links.{root_tree, written}
 use Rattle.rules.specs.Meets.{MeetsLayout}
-use Rattle.rules.proofs.Meaning.{types_counted, records_counted}
+use Rattle.rules.proofs.Meaning.{types_counted}
 use Rattle.inference.specs.Inference.{filled}
 use Rattle.inference.specs.Infer.{answer_of, output_of, Answered}
 use Rattle.inference.proofs.Outcomes.{Fills}
@@ -49,42 +49,41 @@ module _ (p out work table given : List ℕ) (done : Progress) (h : CanWriteFill
   pub filled_long : 6 * done.types ≡ length (take (6 * done.types) table)
   filled_long = sym (length-take-le (6 * done.types) table filled_fits)
 
-  module _ (parts : Parts) (a : ArePartsOf p parts) where
-    fits : TypedFits (records_in parts.records.now) parts.count (take parts.count given) (take (6 * done.types) table) done.types (records_in work) out h.term
+  table_is : entries_in (take (6 * done.types) table) ≡ A
+  table_is = entries_front table done.types filled_fits
+
+  module _ (parts : Parts) (a : ArePartsOf p parts) (count : ℕ) (k : count ≡ length (records_in parts.records.now)) where
+    fits : TypedFits (records_in parts.records.now) (take count given) (take (6 * done.types) table) (records_in work) out h.term
     fits =
         let c = m.counts in
         let f = answered.filling in
-        let counted : length A ≡ done.types = length-take-le done.types (entries_in table) (omega (arith, buffer, h.few)) in
+        let long : length A ≡ done.types = length-take-le done.types (entries_in table) (omega (arith, buffer, h.few)) in
+        let e : length (entries_in (take (6 * done.types) table)) ≡ done.types = ap length table_is ∙ long in
         record {
           ruled = A;
           typed = f.typed;
           back = f.back ∙ ap root_tree (sym a.records_are);
-          given = sym h.types ∙ ap (λ n. take n given) (sym a.count);
+          given = sym h.types ∙ ap (λ n. take n given) (sym (k ∙ a.records_counted));
           linked = rw a.records_are (form_linked omitted first_edition (omega arith) (table_of p) (records_of p) m.form);
-          counted = ap length a.records_are ∙ records_counted p ∙ sym a.count;
-          size_is = answered.records ∙ sym a.count;
-          some = omega (arith, c.1.0, a.count);
-          few = omega (arith, c.1.0, a.count);
-          entries = sym filled_long;
-          some_types = omega (arith, longer f.begins, types_counted p, c.0, counted);
-          few_types = h.few;
-          slots = omega (arith, records_length work, h.can.long, c.1.0, a.count);
-          room = omega (arith, h.can.room, h.few, c.1.0, a.count);
+          size_is = answered.records ∙ sym a.records_counted;
+          some = omega (arith, c.1.0, a.records_counted);
+          few = omega (arith, c.1.0, a.records_counted);
+          entries = omega (arith, filled_long, e);
+          some_types = omega (arith, longer f.begins, types_counted p, c.0, long, e);
+          few_types = omega (arith, e, h.few);
+          slots = omega (arith, records_length work, h.can.long, c.1.0, a.records_counted);
+          room = omega (arith, h.can.room, e, h.few, c.1.0, a.records_counted);
         }
 
-    pub write_asked : CanWriteTyped (records_in parts.records.now) parts.count (take parts.count given) (take (6 * done.types) table) done.types (records_in work) out
+    pub write_asked : CanWriteTyped (records_in parts.records.now) (take count given) (take (6 * done.types) table) (records_in work) out
     write_asked = record { tree = h.term; can = fits }
 
-    module _ (out' : List ℕ) (n : ℕ)
-        (writes : WritesTyped (records_in parts.records.now) parts.count (take parts.count given) (take (6 * done.types) table) done.types (records_in work) out out' n) where
-      wrote : WroteProgram (take (6 * done.types) table) done.types parts.count out out' h.term n
+    module _ (out' : List ℕ) (n : ℕ) (writes : WritesTyped (records_in parts.records.now) (take count given) (take (6 * done.types) table) (records_in work) out out' n) where
+      wrote : WroteProgram (take (6 * done.types) table) out out' h.term n
       wrote = writes.does h.term fits
 
       pub length_short : Fits w32 n
-      length_short = omega (arith, wrote.long, h.few, m.counts.1.0, a.count)
-
-      table_is : entries_in (take (6 * done.types) table) ≡ A
-      table_is = entries_front table done.types filled_fits
+      length_short = omega (arith, wrote.long, fits.few_types, fits.size_is, fits.few)
 
       pub type_written_lem : (work' : List ℕ) → Types p out out' work work' (record { number = 0; place = 0; root_type = done.ty; written = n })
       type_written_lem work' = record {

@@ -56,14 +56,12 @@ fn write_filled(
     ensures { Types program.now output.old output.new work.old work.new result }
 {
     let parts = parts::parts_of(program);
-    let last = parts.count as usize;
+    let last = records::record_count(parts.records) as usize;
     let filled = 6 * (done.types as usize);
     let written = retyping::write_typed(
         parts.records,
-        parts.count,
         &given[..last],
         &table[..filled],
-        done.types,
         work,
         output,
     );
@@ -88,15 +86,10 @@ fn type_with(
     ensures { Types program.now output.old output.new work.old work.new result }
 {
     let parts = parts::parts_of(program);
-    let last = parts.count as usize;
+    let types = records::entry_count(parts.table);
+    let last = records::record_count(parts.records) as usize;
     writing::copy_bytes(parts.table, table, 0);
-    match filling::fill_all(
-        parts.records,
-        parts.count,
-        table,
-        parts.types,
-        &mut given[..last],
-    ) {
+    match filling::fill_all(parts.records, table, types, &mut given[..last]) {
         Ok(done) => write_filled(program, output, work, table, given, done),
         Err(refusal) => refusing(refusal),
     }

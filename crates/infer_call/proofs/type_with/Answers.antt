@@ -4,12 +4,14 @@ use Rattle.infer_call.proofs.Filled.{type_faulty, can_write}
 use Rattle.infer_call.proofs.type_with.Goals as goal
 
 pub fill_all-requires : goal.fill_all-requires
-fill_all-requires c = fill_asked _ _ _ _ _ c.requires _ c.parts_of-parts.ensures _ c.copy_bytes.ensures
+fill_all-requires c =
+    fill_asked _ _ _ _ _ c.requires _ c.parts_of-parts.ensures _ c.copy_bytes.ensures _ c.entry_count-types.ensures _ c.record_count-last.ensures
 
 pub write_filled-requires : goal.write_filled-requires
 write_filled-requires c =
-    can_write _ _ _ _ _ c.requires _ c.parts_of-parts.ensures _ c.copy_bytes.ensures _ _ _ c.in-Ok.ensures c.fill_all.auto.table c.fill_all.auto.given
+    can_write _ _ _ _ _ c.requires _ c.parts_of-parts.ensures _ c.copy_bytes.ensures _ c.entry_count-types.ensures _ _ _ c.record_count-last.ensures _ c.in-Ok.ensures
+    c.fill_all.auto.table c.fill_all.auto.given
 
 pub returns-in-Err : goal.returns-in-Err
 returns-in-Err c =
-    type_faulty _ _ _ _ _ c.requires _ c.parts_of-parts.ensures _ c.copy_bytes.ensures _ _ _ c.in-Err.ensures _ c.refusing.ensures
+    type_faulty _ _ _ _ _ c.requires _ c.parts_of-parts.ensures _ c.copy_bytes.ensures _ c.entry_count-types.ensures _ _ _ c.in-Err.ensures _ c.refusing.ensures
