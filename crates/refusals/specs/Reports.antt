@@ -38,6 +38,14 @@ reported (Err r) = some (refusal_meant r)
 abbrev pub Reports : {X : Type 0} → Result X Refusal → Option MeantRefusal → Type 0
 Reports r o = reported r ≡ o
 
+-- The same of a check whose error is a reason alone, by which the whole is refused: the place is 0.
+abbrev pub reported_whole : {X : Type 0} → Result X Reason → Option MeantRefusal
+reported_whole (Ok x) = none
+reported_whole (Err reason) = some (refusal_by (reason_number reason) 0)
+
+abbrev pub ReportsWhole : {X : Type 0} → Result X Reason → Option MeantRefusal → Type 0
+ReportsWhole r o = reported_whole r ≡ o
+
 -- What a scan of the numbers 1 to `count` finds, where `Post n b` is so of what the test of n answers: all pass; or the lowest that doesn't, and is refused.
 abbrev pub FindsLowest : (ℕ → Bool → Type 0) → Reason → ℕ → Result Unit Refusal → Type 0
 FindsLowest Post reason count (Ok x) = (n : ℕ) → 1 ≤ n → n ≤ count → Post n true

@@ -37,3 +37,12 @@ pub struct Refusal {
     pub reason: Reason,
     pub place: u16,
 }
+
+// What is refused as a whole, with no entry or record to name.
+impl From<Reason> for Refusal {
+    ghost from_gives = { λ reason refusal. refusal ≡ record { reason = reason; place = 0 } };
+
+    fn from(reason: Reason) -> Refusal {
+        Refusal { reason, place: 0 }
+    }
+}
