@@ -143,7 +143,7 @@ pub fn entries_refusal(table: &[u8]) -> Result<(), Refusal>
 fn is_entry(types: u16, x: u32) -> bool
     ensures { result ≡ met (between 1 x types) }
 {
-    (1 <= x) & (x <= types as u32)
+    (1..=types as u32).contains(&x)
 }
 
 // Whether a field x is good for its use, where there are `types` entries. An index and a number may be any.
@@ -166,11 +166,10 @@ fn fields_ok(types: u16, r: Record, edition: Edition, given: bool) -> bool
         return false;
     }
     let kind = Kind::of(r.kind);
-    let ty = !given | is_entry(types, r.ty as u32);
-    let a = field_ok(kind.use_of_a(), types, r.a as u32);
-    let b = field_ok(kind.use_of_b(), types, r.b as u32);
-    let value = field_ok(kind.use_of_value(), types, r.value);
-    ty & a & b & value
+    (!given || is_entry(types, r.ty as u32))
+        && field_ok(kind.use_of_a(), types, r.a as u32)
+        && field_ok(kind.use_of_b(), types, r.b as u32)
+        && field_ok(kind.use_of_value(), types, r.value)
 }
 
 // Refusal 7: the lowest record with a bad kind, type, a, b or value. Where types are not given, but omitted, it "doesn't look at the type field".
