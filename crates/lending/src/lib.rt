@@ -2,9 +2,9 @@
 #![tactic(auto)]
 
 ghost use Rattle.rules.specs.Run.{buffers_refusal};
-ghost use Rattle.refusals.specs.Reports.{Reports};
+ghost use Rattle.refusals.specs.Reports.{ReportsWhole};
 
-use refusals::{Reason, Refusal};
+use refusals::Reason;
 
 // The bytes that a call needs of its output and its work buffer.
 pub const OUTPUT: usize = 34308;
@@ -13,20 +13,14 @@ pub const WORK: usize = 65536;
 
 // The refusal of buffers of these lengths, or none where both are long enough.
 #[tactic(auto, using(crate::proofs::Lengths::lengths))]
-pub fn buffers_refusal(output: usize, work: usize) -> Result<(), Refusal>
-    ensures { Reports result (buffers_refusal output work) }
+pub fn buffers_refusal(output: usize, work: usize) -> Result<(), Reason>
+    ensures { ReportsWhole result (buffers_refusal output work) }
 {
     if output < OUTPUT {
-        return Err(Refusal {
-            reason: Reason::OutputShort,
-            place: 0,
-        });
+        return Err(Reason::OutputShort);
     }
     if work < WORK {
-        return Err(Refusal {
-            reason: Reason::WorkShort,
-            place: 0,
-        });
+        return Err(Reason::WorkShort);
     }
     Ok(())
 }
