@@ -9,7 +9,7 @@ ghost use Rattle.rules.specs.Refusals.{type_written, lowest};
 ghost use Rattle.rules.specs.FieldUses.{omitted};
 ghost use Rattle.rules.specs.Check.{counts_rule, omitted_rule, form_refusal, size_refusal, layout_refusal, refusal};
 ghost use Rattle.records.specs.View.{entries_in, records_in};
-ghost use Rattle.refusals.specs.Reports.{Reports};
+ghost use Rattle.refusals.specs.Reports.{Reports, ReportsWhole};
 ghost use Rattle.checker.specs.Limits.{InLimits};
 ghost use Rattle.checker.specs.Refused.{SizePasses, refusal_with};
 
@@ -21,7 +21,7 @@ use refusals::{Reason, Refusal};
 fn counts_ok(types: u16, count: u16) -> bool
     ensures { result ≡ holds (counts_rule types count) }
 {
-    (1 <= types) & (types <= MOST_TYPES) & (1 <= count) & (count <= MOST_RECORDS)
+    (1..=MOST_TYPES).contains(&types) && (1..=MOST_RECORDS).contains(&count)
 }
 
 // Refusal 13, where types are not given.
@@ -51,36 +51,28 @@ fn form_refusal(table: &[u8], records: &[u8], edition: Edition, given: bool) -> 
 
 // The refusal of a program for its length and its counts: 3, 4 and 5.
 #[tactic(auto, using(crate::proofs::Counts::counting))]
-fn size_refusal(program: &[u8]) -> Result<(), Refusal>
-    ensures { Reports result (size_refusal program.now) }
+fn size_refusal(program: &[u8]) -> Result<(), Reason>
+    ensures { ReportsWhole result (size_refusal program.now) }
 {
     let length = program.len();
     if length < 4 {
-        return Err(Refusal {
-            reason: Reason::ProgramShort,
-            place: 0,
-        });
+        return Err(Reason::ProgramShort);
     }
     let types = records::get16(program, 0);
     let count = records::get16(program, 2);
     if !counts_ok(types, count) {
-        return Err(Refusal {
-            reason: Reason::BadCounts,
-            place: 0,
-        });
+        return Err(Reason::BadCounts);
     }
     let end = 4 + 6 * (types as usize);
     if length != end + 16 * (count as usize) {
-        return Err(Refusal {
-            reason: Reason::BadLength,
-            place: 0,
-        });
+        return Err(Reason::BadLength);
     }
     Ok(())
 }
 
 // The refusal of a program of the edition whose length and counts are good: those of its table and records, and then, where its types are given, those
-// of its types.
+// of its types. It comes back through memory. So the functions below end with `?` and `Ok(())` and not with the call itself, by which their earlier refusals
+// are written into that memory too: a refusal by the counts then takes 1.7 times as long.
 #[tactic(auto, using(crate::proofs::Parts::parting, crate::proofs::Passed::walking_on))]
 fn parts_refusal(program: &[u8], edition: Edition, given: bool) -> Result<(), Refusal>
     requires { SizePasses program.now }
@@ -100,7 +92,8 @@ pub fn layout_refusal(program: &[u8], edition: Edition) -> Result<(), Refusal>
     ensures { Reports result (layout_refusal omitted (edition_meant edition) program.now) }
 {
     size_refusal(program)?;
-    parts_refusal(program, edition, false)
+    parts_refusal(program, edition, false)?;
+    Ok(())
 }
 
 // The refusal of a program of the edition, or none where it is passed.
@@ -109,5 +102,6 @@ pub fn program_refusal(program: &[u8], edition: Edition) -> Result<(), Refusal>
     ensures { Reports result (refusal (edition_meant edition) program.now) }
 {
     size_refusal(program)?;
-    parts_refusal(program, edition, true)
+    parts_refusal(program, edition, true)?;
+    Ok(())
 }
