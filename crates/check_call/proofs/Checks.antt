@@ -39,7 +39,7 @@ module _ (p : List ℕ) (meets : Meets first_edition p) (parts : Parts) (a : Are
   pub root_told : (r : Record) → record_meant r ≡ get_or (records_in parts.records.now) 0 no_record → r.ty ≡ type_no (records_of p) 1
   root_told r e = ap (λ x. x.fields.type) e ∙ ap (λ rs. (get_or rs 0 no_record).fields.type) a.records_are
 
-  pub check_passed : (root R : ℕ) → root ≡ type_no (records_of p) 1 → R ≡ length (records_in parts.records.now) → passing root R ≡ check_answer first_edition p
-  check_passed root R e eR = ap₂ passing e (eR ∙ a.records_counted) ∙ sym (answered first_edition p ((exactly first_edition p).1 meets))
+pub check_passed : (p : List ℕ) → Meets first_edition p → (root R : ℕ) → root ≡ type_no (records_of p) 1 → R ≡ record_count p → passing root R ≡ check_answer first_edition p
+check_passed p meets root R e eR = ap₂ passing e eR ∙ sym (answered first_edition p ((exactly first_edition p).1 meets))
 
 pub ruleset checking = (passing_root, root_told, check_passed)

@@ -9,7 +9,7 @@ ghost use Rattle.rules.specs.Meets.{Meets};
 ghost use Rattle.refusals.specs.Reports.{reason_number};
 ghost use Rattle.check_call.specs.Answers.{check_meant};
 
-use refusals::Refusal;
+use refusals::{Reason, Refusal};
 
 // What check says of a program: passed, with number and place 0, the root's type and the number of records; or refused, with document 01's
 // number and place and the other fields 0.
@@ -29,7 +29,7 @@ pub fn check(program: &[u8]) -> CheckAnswer
 {
     match checker::program_refusal(program, kinds::first_edition()) {
         Ok(()) => passed(program),
-        Err(refusal) => refused(refusal),
+        Err(Refusal { reason, place }) => refused(reason, place),
     }
 }
 
@@ -44,29 +44,29 @@ pub fn root_type(program: &[u8]) -> u16
     root.ty
 }
 
-// The answer for a program that is passed.
+// The answer for a program that is passed. The number of records is read again: kept over the call, the length of the program takes a register, which
+// each refusal saves and restores.
 #[tactic(auto, using(crate::proofs::Checks::checking))]
 fn passed(program: &[u8]) -> CheckAnswer
     requires { Meets first_edition program.now }
     ensures { check_meant result ≡ check_answer first_edition program.now }
 {
     let root = root_type(program);
-    let parts = parts::parts_of(program);
     CheckAnswer {
         number: 0,
         place: 0,
         root_type: root as u32,
-        records: records::record_count(parts.records) as u32,
+        records: records::get16(program, 2) as u32,
     }
 }
 
 // The answer for a program that is refused.
-fn refused(refusal: Refusal) -> CheckAnswer
-    ensures { check_meant result ≡ failing (reason_number refusal.reason) refusal.place }
+fn refused(reason: Reason, place: u16) -> CheckAnswer
+    ensures { check_meant result ≡ failing (reason_number reason) place }
 {
     CheckAnswer {
-        number: refusal.reason.number() as u32,
-        place: refusal.place as u32,
+        number: reason.number() as u32,
+        place: place as u32,
         root_type: 0,
         records: 0,
     }
