@@ -33,6 +33,5 @@ module _ (s : List ℕ) (i j : ℕ) (from : i < length (records_in s)) (to : j <
       let held : record_bytes r ≡ take 16 block = ap record_bytes read ∙ record_form.forth block those room in
       let sixteen : 16 * i + 16 - 16 * i ≡ 16 = omega arith in
       record_put s j r s' to
-          (e ∙ append_assoc (take (16 * j) s) _ _ ∙ ap (λ n. take (16 * j) s ++ (take n block ++ drop (16 * j + n) s)) sixteen ∙ ap (λ vs. take (16 * j) s ++ (vs ++ drop (16 * j + 16) s)) (sym held))
-          (subst RecordFits (sym read) (record_form.fits block those))
-
+      (e ∙ append_assoc (take (16 * j) s) _ _ ∙ ap (λ n. take (16 * j) s ++ (take n block ++ drop (16 * j + n) s)) sixteen ∙ ap (λ vs. take (16 * j) s ++ (vs ++ drop (16 * j + 16) s)) (sym held))
+      (subst RecordFits (sym read) (record_form.fits block those))
