@@ -3,19 +3,21 @@ use Prim.Native.Nat.{ℕ}
 use native.Mathlib.Omega.{arith}
 use mathlib.Core.List.{List, [], ◌∷◌}
 use mathlib.Core.Logic.{inl, inr, ⊎_elim}
-use mathlib.Core.Path.{◌≡◌, sym, ap, ◌∙◌}
-use lib.ListN.{length}
-use Rattle.rules.specs.Kinds.{number, variable, child_count, kind_of}
+use mathlib.Core.Bool.{Bool, true}
+use mathlib.Core.Path.{◌≡◌, refl, sym, ap, ◌∙◌}
+use lib.Dec.{eqb→eq}
+use lib.ListN.{length, get_or}
+use Rattle.rules.specs.Kinds.{number, variable, leaf₀, child_count, kind_of}
 use Rattle.rules.specs.Terms.{Term, leaf, unary, binary, ternary, root_kind}
 use Rattle.rules.specs.Indices.{changed, replaced, summed, gave_way}
 use Rattle.rules.specs.FreeBounds.{free_bound}
-use Rattle.rules.specs.Format.{Record}
+use Rattle.rules.specs.Format.{Record, no_record}
 use Rattle.rules.proofs.KindTable.{kind_back}
 use Rattle.rules.proofs.FreeBounds.{replaced_closed}
 use Rattle.rules.proofs.Shifts.{raised_none}
-use Rattle.kinds.specs.Named.{kind_meant}
-use Rattle.kinds.specs.declared.names.Kind.{Kind}
-use Rattle.terms.specs.Measuring.{KindIs, BoundIs}
+use Rattle.kinds.specs.declared.names.Kind.TheVariants.{Variable}
+use Rattle.kinds.proofs.Named.{named}
+use Rattle.terms.specs.Measuring.{RootIs, BoundIs}
 use Rattle.terms.proofs.Trees.{kind_read}
 use Rattle.substitution.specs.declared.arguments.Argument.TheVariants.{Tree as TreeAt}
 use Rattle.substitution.specs.declared.arguments.Arguments.{Arguments}
@@ -46,10 +48,11 @@ itself_replaced t (binary k f u v) c b = absurd (omega arith)
 itself_replaced t (ternary k f u v w) c b = absurd (omega arith)
 
 module _ (rs : List Record) (at arg : ℕ) where
-  pub variable_planned : (b : ℕ) → BoundIs rs at b → b ≡ 1 → (k : Kind) → KindIs rs at k → (n : ℕ) → n ≡ child_count (kind_meant k) → n ≡ 0 → PlansTree rs at arg (Tree arg 1)
-  variable_planned b h e k q n c z = record {
+  pub variable_planned : (b : ℕ) → BoundIs rs at b → b ≡ 1 → (m : Bool) → RootIs rs at Variable m → m ≡ true → PlansTree rs at arg (Tree arg 1)
+  variable_planned b h e m q z = record {
     is = λ lo hi end body t there clear low given before _.
-        let none : child_count (root_kind body) ≡ 0 = ap child_count (sym (q.is ∙ ap kind_of (kind_read rs at body there) ∙ kind_back (root_kind body))) ∙ sym c ∙ z in
+        let two : (get_or rs at no_record).kind ≡ 2 = eqb→eq _ 2 (rw (sym q.is ∙ z) tt) in
+        let none : child_count (root_kind body) ≡ 0 = ap child_count (sym (kind_back (root_kind body)) ∙ ap kind_of (sym (kind_read rs at body there) ∙ two) ∙ sym (named (leaf₀ variable) 2 refl)) in
         let (r, g) = itself_replaced t body none (sym (h.is body there) ∙ e) in
         rw (r, g) (itself arg 1 t given (inl before));
   }

@@ -4,6 +4,7 @@ ghost use Rattle.terms.specs.Preorder.{HasTree};
 ghost use Rattle.contraction.specs.Plans.{only_one, PlansBody, PlansTree};
 
 use crate::plans::Plan;
+use kinds::Kind;
 use substitution::{Argument, Arguments};
 
 // The tree at `at`, its variables replaced. Where no index is free in it, none of them is used, and it stays as it is.
@@ -36,7 +37,7 @@ pub fn body_with_tree(w: &[u8], at: usize, arg: usize) -> Plan
     requires { HasTree (records_in w.now) at }
     ensures { PlansTree (records_in w.now) at arg result }
 {
-    if terms::bound_at(w, at) == 1 && terms::root_kind(w, at).children() == 0 {
+    if terms::bound_at(w, at) == 1 && terms::root_is(w, at, Kind::Variable) {
         Plan::Tree(arg, 1)
     } else {
         body_with_one(w, at, Argument::Tree(arg))

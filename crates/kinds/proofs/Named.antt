@@ -3,10 +3,13 @@ use Prim.Native.Nat.{ℕ, zero, suc, ◌+◌, ◌≤◌, ◌<◌}
 use native.Mathlib.Omega.{arith}
 use native.Mathlib.Decide.{dec_lt}
 use mathlib.Core.List.{List, [], ◌∷◌}
-use mathlib.Core.Path.{◌≡◌, refl, sym}
-use lib.Dec.{eqb, eqb→eq}
+use mathlib.Core.Path.{◌≡◌, refl, sym, subst}
+use mathlib.Core.Bool.{true, false}
+use lib.Dec.{T, eqb, eqb→eq}
+use Rattle.std.specs.Prelude.{nat_lt}
 use Rattle.rules.specs.Lists.{All, listed}
-use Rattle.rules.specs.Kinds.{number, Kind, leaf₀, kind_number, highest_kind, kinds, numbered, kind_of}
+use Rattle.rules.specs.Kinds.{number, splice, Kind, leaf₀, unary₁, binary₂, ternary₃, child_count, kind_number, highest_kind, kinds, numbered, kind_of}
+use Rattle.kinds.specs.Named.{IsKind, is_match}
 use Rattle.rules.proofs.General.{picked}
 use Rattle.rules.proofs.KindTable.{kind_range, kind_back}
 
@@ -40,3 +43,23 @@ named k n e = rw e (sym (kind_back k))
 -- Any other number stands for kind 1.
 pub otherwise : (n : ℕ) → (1 ≤ n → n ≤ 14 → ⊥) → leaf₀ number ≡ kind_of n
 otherwise n h = sym (unknown_kind n h)
+
+-- The numbers of matches are those above a splice's.
+pub match_numbered : (n : ℕ) → IsKind n → nat_lt (kind_number (unary₁ splice)) n ≡ is_match (kind_of n)
+unfolding kind_of numbered listed
+match_numbered n (a, b) = in_range (λ k. nat_lt 8 k ≡ is_match (kind_of k)) 1 highest_kind
+    (refl, (refl, (refl, (refl, (refl, (refl, (refl, (refl, (refl, (refl, (refl, (refl, (refl, (refl, tt))))))))))))))
+    n a (omega arith)
+
+-- Matches have three children, and the other kinds fewer.
+pub match_children : (k : Kind) → is_match k ≡ true → child_count k ≡ 3
+match_children (leaf₀ k) e = absurd (subst T (sym e) tt)
+match_children (unary₁ k) e = absurd (subst T (sym e) tt)
+match_children (binary₂ k) e = absurd (subst T (sym e) tt)
+match_children (ternary₃ k) e = refl
+
+pub other_children : (k : Kind) → is_match k ≡ false → child_count k ≤ 2
+other_children (leaf₀ k) e = omega arith
+other_children (unary₁ k) e = omega arith
+other_children (binary₂ k) e = omega arith
+other_children (ternary₃ k) e = absurd (subst T e tt)

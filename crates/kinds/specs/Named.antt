@@ -1,5 +1,5 @@
 -- The code's names of kinds and of uses of fields stand for the rules' kinds and uses.
-use Rattle.std.specs.Prelude.{ℕ, Option, None, Some, ◌≡◌, ◌≤◌}
+use Rattle.std.specs.Prelude.{ℕ, Bool, true, false, Option, None, Some, ◌≡◌, ◌≤◌}
 use Rattle.rules.specs.Kinds.{number, variable, function, application, fix, lift, quote, splice, match_number, match_variable, match_application, match_lift, match_function, match_fix, match, match_shape, leaf₀, unary₁, binary₂, ternary₃, highest_kind}
 use Rattle.rules.specs.Kinds.{Kind as MeantKind}
 use Rattle.rules.specs.FieldUses.{unused, an_index, a_type, a_number}
@@ -35,6 +35,13 @@ use_meant Value = a_number
 -- n is the number of a kind.
 abbrev pub IsKind : ℕ → Type 0
 IsKind n = (1 ≤ n) × (n ≤ highest_kind)
+
+-- "A match" is of one of the kinds with three children.
+abbrev pub is_match : MeantKind → Bool
+is_match (leaf₀ k) = false
+is_match (unary₁ k) = false
+is_match (binary₂ k) = false
+is_match (ternary₃ k) = true
 
 -- A match looks for code of its `sought` kind; another kind looks for none.
 abbrev pub Seeks : MeantKind → Option Kind → Type 0

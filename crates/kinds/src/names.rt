@@ -10,7 +10,7 @@ ghost use Rattle.rules.specs.Typing.{levels, standing, first_level};
 ghost use Rattle.rules.specs.Values.{plain_kind};
 ghost use Rattle.rules.specs.Contractions.{contracts};
 ghost use Rattle.rules.specs.Steps.{stepping};
-ghost use Rattle.kinds.specs.Named.{kind_meant, use_meant, IsKind, Seeks};
+ghost use Rattle.kinds.specs.Named.{kind_meant, use_meant, IsKind, is_match, Seeks};
 
 use crate::uses::Use;
 
@@ -84,6 +84,16 @@ impl Kind {
         ensures { result ≡ child_count (kind_meant self) }
     {
         ((CHILDREN >> (2 * (self as u32))) % 4) as u16
+    }
+
+    // Whether it is a match.
+    pub fn is_match(self) -> bool
+        ensures { result ≡ is_match (kind_meant self) }
+    {
+        match self.number() {
+            9..=14 => true,
+            _ => false,
+        }
     }
 
     // Whether a tree may be plain that has a record of this kind.

@@ -4,8 +4,7 @@ use native.Mathlib.Omega.{arith}
 use mathlib.Core.List.{List}
 use mathlib.Core.Bool.{Bool, true, false}
 use mathlib.Core.Logic.{◌≢◌}
-use mathlib.Core.Path.{◌≡◌}
-use Rattle.rules.specs.Kinds.{child_count}
+use mathlib.Core.Path.{◌≡◌, sym, ◌∙◌}
 use Rattle.rules.specs.Terms.{Term}
 use Rattle.rules.specs.Types.{Table}
 use Rattle.rules.specs.Contractions.{contracts}
@@ -15,6 +14,8 @@ use Rattle.kinds.specs.Named.{kind_meant}
 use Rattle.contexts.specs.Contexts.{outer_level, Context}
 use Rattle.zipper.specs.declared.focus.Focus.{Focus}
 use Rattle.navigation.specs.declared.ascending.Turn.TheVariants.{Next, Value, Redex, Match}
+use Rattle.kinds.specs.Named.{is_match}
+use Rattle.kinds.proofs.Named.{match_children, other_children}
 use Rattle.terms.specs.Measuring.{HasKind, KindIs}
 use Rattle.zipper.specs.Focusing.{CanClose, Closes}
 use Rattle.navigation.specs.Ascending.{Rests, CanTellNext, TellsNext, sought, CanAscend, Ascends}
@@ -59,16 +60,16 @@ module _ (rs₀ : List Record) (z₀ : Focus) (l₀ : ℕ) (rs : List Record) (z
         climb_next e = record { does = λ types C t whole h. hole_goes_on (each types C t whole h) k lv kd v b tn e z₀.r i.onward }
 
         module _ (e : b ≡ false) where
-          pub climb_match : (c : ℕ) → c ≡ child_count (kind_meant k) → c ≡ 3 → Ascends rs₀ rs z₀ l₀ (Match z)
-          climb_match c o m = record { does = λ types C t whole h. sought _ (match_stays (each types C t whole h) k lv kd v b tn e c o m) }
+          pub climb_match : (m : Bool) → m ≡ is_match (kind_meant k) → m ≡ true → Ascends rs₀ rs z₀ l₀ (Match z)
+          climb_match m o q = record { does = λ types C t whole h. sought _ (match_stays (each types C t whole h) k lv kd v b tn e (match_children (kind_meant k) (sym o ∙ q))) }
 
           module _ (rs' : List Record) (r : Focus) (cl : Closes rs rs' z r) where
             pub climb_less : r.s < z.s
             climb_less = closed_outward one k lv kd v b tn e rs' r cl
 
             module _ (y : Bool) (o : y ≡ contracts lv (kind_meant k)) where
-              pub climb_redex : y ≡ true → (c : ℕ) → c ≡ child_count (kind_meant k) → c ≢ 3 → Ascends rs₀ rs' z₀ l₀ (Redex r lv)
-              climb_redex q c j m = record { does = λ types C t whole h. sought _ (closed_redex (each types C t whole h) k lv kd v b tn e rs' r cl y o q c j m) }
+              pub climb_redex : y ≡ true → (m : Bool) → m ≡ is_match (kind_meant k) → m ≡ false → Ascends rs₀ rs' z₀ l₀ (Redex r lv)
+              climb_redex q m j n = record { does = λ types C t whole h. sought _ (closed_redex (each types C t whole h) k lv kd v b tn e rs' r cl y o q (other_children (kind_meant k) (sym j ∙ n))) }
 
               pub climb_more : y ≡ false → Climbing rs₀ z₀ l₀ rs' r lv
               climb_more q = record {

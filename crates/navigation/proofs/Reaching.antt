@@ -1,8 +1,8 @@
 -- `reach`: the laws of going down to a redex and bringing it over the gap. `reaching` for search.
-use Prim.Native.Nat.{ℕ, zero, suc, ◌≤◌}
+use Prim.Native.Nat.{ℕ, zero, suc}
 use native.Mathlib.Omega.{arith}
+use mathlib.Core.Bool.{Bool, true, false}
 use mathlib.Core.List.{List, ◌∷◌, ◌++◌}
-use mathlib.Core.Logic.{◌≢◌}
 use mathlib.Core.Path.{◌≡◌, refl, sym, ap, ◌∙◌}
 use lib.Dec.{T, eqb-suc-zero}
 use Rattle.rules.specs.Kinds.{Ternary, match, ternary₃, child_count}
@@ -10,16 +10,15 @@ use Rattle.rules.specs.Terms.{Fields, Term, leaf, unary, binary, ternary, root_k
 use Rattle.rules.specs.Types.{Table}
 use Rattle.rules.specs.Contractions.{contracts}
 use Rattle.rules.specs.Format.{Record}
-use Rattle.rules.proofs.KindTable.{each_kind}
-use Rattle.kinds.specs.declared.names.Kind.{Kind as NamedKind}
-use Rattle.kinds.specs.Named.{kind_meant}
 use Rattle.contexts.specs.Contexts.{Frame, first₃, hole_level, Context, plug, level_at, Evaluation}
 use Rattle.contexts.specs.Moving.{Ready}
 use Rattle.contexts.proofs.Contexts.{plug_append, evaluation_append}
 use Rattle.zipper.specs.declared.focus.Focus.{Focus}
 use Rattle.zipper.specs.declared.focus.Ahead.{Ahead}
 use Rattle.navigation.specs.declared.ascending.Turn.TheVariants.{Redex, Match}
-use Rattle.terms.specs.Measuring.{HasKind, KindIs}
+use Rattle.kinds.specs.Named.{is_match}
+use Rattle.kinds.proofs.Named.{match_children, other_children}
+use Rattle.terms.specs.Measuring.{HasKind, MatchIs}
 use Rattle.zipper.specs.Focusing.{AheadAt, HasAhead, Brings, CanOpen, Opens}
 use Rattle.navigation.specs.Ascending.{HeldIn, HeldAhead, Sought, redex, RedexIn, CanReach, Reaches}
 use Rattle.navigation.specs.Descending.{Towards, CanDescend, Descends}
@@ -108,8 +107,8 @@ module _ (rs : List Record) (a : Ahead) (p : ℕ) (rs₁ : List Record) (x : Ahe
       typed = h.held.typed;
     }
 
-    children_read : (k : NamedKind) (c : ℕ) → KindIs rs₁ p k → c ≡ child_count (kind_meant k) → child_count (root_kind u) ≡ c
-    children_read k c kd n = sym (n ∙ ap child_count (kd.is ∙ kind_at rs₁ p u (record { there = rw d.place at at_redex.focus })))
+    match_read : (b : Bool) → MatchIs rs₁ p b → is_match (root_kind u) ≡ b
+    match_read b m = sym (m.is ∙ ap is_match (kind_at rs₁ p u (record { there = rw d.place at at_redex.focus })))
 
   first_at : (h : CanReach rs a p) → AheadAt rs₁ x (h.inner ++ h.context) h.tree
   first_at h = at_redex h.types h.inner h.context h.tree h.whole h.redex_in
@@ -120,17 +119,17 @@ module _ (rs : List Record) (a : Ahead) (p : ℕ) (rs₁ : List Record) (x : Ahe
   pub reach_brings : CanReach rs a p → HasAhead rs₁ x
   reach_brings h = record { context = h.inner ++ h.context; focus = h.tree; laid = first_at h }
 
-  module _ (k : NamedKind) (c : ℕ) (kd : KindIs rs₁ p k) (n : c ≡ child_count (kind_meant k)) where
-    pub reach_redex : c ≢ 3 → (rs₂ : List Record) (z : Focus) → Brings rs₁ rs₂ x z → Reaches rs rs₂ a p (Redex z x.level)
-    reach_redex m rs₂ z b = record {
+  module _ (b : Bool) (told : MatchIs rs₁ p b) where
+    pub reach_redex : b ≡ false → (rs₂ : List Record) (z : Focus) → Brings rs₁ rs₂ x z → Reaches rs rs₂ a p (Redex z x.level)
+    reach_redex e rs₂ z g = record {
       does = λ types D C u whole h.
-          redex z x.level (D ++ C) u (now_held types D C u whole h (b.does (D ++ C) u (at_redex types D C u whole h))) h.ready h.contracted
-          (omega (arith, children_read types D C u whole h k c kd n, each_kind (λ y. child_count y ≤ 3) (omega arith) (root_kind u)));
+          redex z x.level (D ++ C) u (now_held types D C u whole h (g.does (D ++ C) u (at_redex types D C u whole h))) h.ready h.contracted
+          (other_children (root_kind u) (match_read types D C u whole h b told ∙ e));
     }
 
-    module _ (m : c ≡ 3) where
+    module _ (e : b ≡ true) where
       each : (types : Table) (D C : Context) (u whole : Term) → RedexIn types rs a p D C u whole → MatchIn types rs₁ x whole
-      each types D C u whole h = match_in (D ++ C) u (now_held types D C u whole h (at_redex types D C u whole h)) h.ready h.contracted (children_read types D C u whole h k c kd n ∙ m)
+      each types D C u whole h = match_in (D ++ C) u (now_held types D C u whole h (at_redex types D C u whole h)) h.ready h.contracted (match_children (root_kind u) (match_read types D C u whole h b told ∙ e))
 
       one : (h : CanReach rs a p) → MatchIn h.types rs₁ x h.whole
       one h = each h.types h.inner h.context h.tree h.whole h.redex_in
@@ -143,6 +142,6 @@ module _ (rs : List Record) (a : Ahead) (p : ℕ) (rs₁ : List Record) (x : Ahe
         reach_code h = code_ahead (one h) rs₂ y op
 
         pub reach_match : (rs₃ : List Record) (z : Focus) → Brings rs₂ rs₃ y z → Reaches rs rs₃ a p (Match z)
-        reach_match rs₃ z b = record { does = λ types D C u whole h. code_stops (each types D C u whole h) rs₂ y op rs₃ z b }
+        reach_match rs₃ z g = record { does = λ types D C u whole h. code_stops (each types D C u whole h) rs₂ y op rs₃ z g }
 
 pub ruleset reaching = (reach_descends, reach_known, reach_brings, reach_redex, reach_opens, reach_code, reach_match)

@@ -15,7 +15,7 @@ use Rattle.rules.specs.Contractions.{contracts}
 use Rattle.rules.specs.Steps.{stepping, steps_child}
 use Rattle.rules.specs.Format.{Record}
 use Rattle.rules.proofs.General.{picked}
-use Rattle.rules.proofs.KindTable.{each_kind, kind_back}
+use Rattle.rules.proofs.KindTable.{kind_back}
 use Rattle.kinds.specs.declared.names.Kind.{Kind as NamedKind}
 use Rattle.kinds.specs.Named.{kind_meant}
 use Rattle.contexts.specs.Contexts.{Frame, only, first, second, first₃, second₃, third₃, fill, frame_kind, hole_number, hole_level, outer_level, StepsHole, Context, plug, level_at, left_size, Evaluation}
@@ -195,8 +195,8 @@ module _ {types : Table} {rs : List Record} {z : Focus} {l : ℕ} {whole : Term}
         now_ready = ready (level_at 0 C) F t steps_hole hole_done (rw (next_steps ∙ e) tt)
 
         -- A match stays open.
-        pub match_stays : (c : ℕ) → c ≡ child_count (kind_meant k) → c ≡ 3 → Sought types rs whole (Match z)
-        match_stays c o m = frame_stops l C t whole F (sym (ap child_count kind_is) ∙ sym o ∙ m) steps_hole now_ready f.rests.held
+        pub match_stays : child_count (kind_meant k) ≡ 3 → Sought types rs whole (Match z)
+        match_stays three = frame_stops l C t whole F (sym (ap child_count kind_is) ∙ three) steps_hole now_ready f.rests.held
 
         -- Any other frame is closed.
         module _ (rs' : List Record) (r : Focus) (cl : Closes rs rs' z r) where
@@ -220,11 +220,11 @@ module _ {types : Table} {rs : List Record} {z : Focus} {l : ℕ} {whole : Term}
             contracts_is : contracts (level_at 0 C) (frame_kind F) ≡ y
             contracts_is = sym (o ∙ ap₂ contracts level_is kind_is)
 
-            pub closed_redex : y ≡ true → (c : ℕ) → c ≡ child_count (kind_meant k) → c ≢ 3 → Sought types rs' whole (Redex r lv)
-            closed_redex q c i n =
+            pub closed_redex : y ≡ true → child_count (kind_meant k) ≤ 2 → Sought types rs' whole (Redex r lv)
+            closed_redex q few =
                 let (root, _) = root_filled F t in
                 redex r lv C (fill F t) now_held now_ready (rw (root, contracts_is ∙ q) tt)
-                (rw root (omega (arith, i, ap child_count kind_is, each_kind (λ x. child_count x ≤ 3) (omega arith) (frame_kind F))))
+                (rw (root, ← kind_is) few)
 
             pub closed_done : y ≡ false → RestsIn types rs' r lv whole
             closed_done q = record {

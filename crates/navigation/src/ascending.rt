@@ -8,7 +8,7 @@ ghost use Rattle.navigation.specs.Ascending.{CanTellNext, TellsNext, CanAscend, 
 
 use crate::descending::descend;
 use kinds::Kind;
-use terms::root_kind;
+use terms::{is_match_at, root_kind};
 use zipper::{Ahead, Focus, bring, children_after, close, open_ahead};
 
 // Where a focus that is done leads: a next focus, which is to be searched; or "the term is a value"; or a record that is rewritten, at its
@@ -44,7 +44,7 @@ fn steps_next(w: &[u8], z: Focus, level: u16) -> bool
 }
 
 // From a focus that is done, at its level: frames that are done are closed, until one steps its next child, which is the first tree after the gap,
-// or is rewritten. Only matches have three children, and a match whose code is done is rewritten.
+// or is rewritten. A match whose code is done is rewritten.
 pub fn ascend(w: &mut [u8], z: Focus, level: u16) -> Turn
     requires { CanAscend (records_in w.old) z level }
     ensures { Ascends (records_in w.old) (records_in w.new) z level result }
@@ -65,7 +65,7 @@ pub fn ascend(w: &mut [u8], z: Focus, level: u16) -> Turn
                 level: inner,
             });
         }
-        if kind.children() == 3 {
+        if kind.is_match() {
             return Turn::Match(at);
         }
         at = close(w, at);
@@ -82,8 +82,7 @@ pub fn reach(w: &mut [u8], a: Ahead, p: usize) -> Turn
     ensures { Reaches (records_in w.old) (records_in w.new) a p result }
 {
     let redex = descend(w, a, p);
-    let kind = root_kind(w, p);
-    if kind.children() == 3 {
+    if is_match_at(w, p) {
         let code = open_ahead(w, redex, 0);
         return Turn::Match(bring(w, code));
     }

@@ -2,6 +2,7 @@
 pub mod Records
 pub mod Entries
 pub mod Puts
+pub mod Copying
 pub mod Program
 pub mod Form
 -- What those and the proofs of the code rest on.

@@ -131,22 +131,16 @@ pub stepped_place_fits : (s : List ℕ) (i : ℕ) (k : Kind) → HasRewritten (r
 stepped_place_fits s i k h b = omega (arith, stepped_fits (records_in s) i k h, records_length s)
 
 -- `find_at_rest`.
-module _ (rs : List Record) (i : ℕ) (h : HasUnwritten rs i) where
+module _ (rs : List Record) (i : ℕ) (k : Kind) (h : HasUnwritten rs i k) where
   pub rest_tree : HasTree rs i
   rest_tree = record { tree = h.tree; there = h.there }
-
-  pub rest_known : HasKind rs i
-  rest_known = tree_kind rs i rest_tree
 
   rest_in : i < length rs
   rest_in = at_first rs i h.tree h.there
 
-  module _ (k : Kind) (a : KindIs rs i k) (l : ℕ) (q : l ≡ first_level (kind_meant k) 0) where
-    unwritten : contracts 0 (kind_meant k) ≡ false
-    unwritten = ap (contracts 0) (kind_seen rs i k a h.tree h.there) ∙ h.stays
-
+  module _ (l : ℕ) (q : l ≡ first_level (kind_meant k) 0) where
     across : l ≡ 1 → (t : Term) → At rs i t → Case rs i t 1 false 1
-    across e t b = rw (sym q ∙ e, unwritten, kind_across (kind_meant k) (sym q ∙ e)) at (seen rs i k a t b)
+    across e t b = rw (sym q ∙ e, h.stays, kind_across (kind_meant k) (sym q ∙ e)) at (seen rs i k h.kind t b)
 
     quoted : l ≡ 1 → Inside rs (i + 1) h.tree
     quoted e = go (across e h.tree h.there)
@@ -167,13 +161,13 @@ module _ (rs : List Record) (i : ℕ) (h : HasUnwritten rs i) where
         go (one u b n r) = f.is u b ∙ sym (r ∙ here_none (find 1 u (i + 1)))
 
     pub rest_done : (l ≡ 1 → ⊥) → (d : ℕ) → Skips rs i d → Finds 0 rs i (Done d)
-    rest_done n d f = record { is = λ t b. ap Done (f.is t b) ∙ go (rw (kind_rests (kind_meant k) unwritten (λ e. n (q ∙ e))) at (seen rs i k a t b)) }
+    rest_done n d f = record { is = λ t b. ap Done (f.is t b) ∙ go (rw (kind_rests (kind_meant k) h.stays (λ e. n (q ∙ e))) at (seen rs i k h.kind t b)) }
       where
         go : {t : Term} {m : ℕ} {b : Bool} → Case rs i t m b 0 → Done (i + size t) ≡ find 0 t i
         go (none r) = sym r
 
-pub rest_place_fits : (s : List ℕ) (i : ℕ) → HasUnwritten (records_in s) i → length s < 2 ^ 64 → Fits w64 (i + 1)
-rest_place_fits s i h b = omega (arith, rest_in (records_in s) i h, records_length s)
+pub rest_place_fits : (s : List ℕ) (i : ℕ) (k : Kind) → HasUnwritten (records_in s) i k → length s < 2 ^ 64 → Fits w64 (i + 1)
+rest_place_fits s i k h b = omega (arith, rest_in (records_in s) i k h, records_length s)
 
 -- `find0`. The search for the tree t at i has come to a tree at `at`: what is found in t is what is found there, or else the root
 -- that was passed last, if any was.
@@ -198,12 +192,8 @@ module _ (rs : List Record) (i at : ℕ) (passed : Option ℕ) (k : Kind) (d : D
     pub down_rewritten : b ≡ true → HasRewritten rs at k
     down_rewritten y = record { tree = held.child; there = held.there; kind = d.kind; rewritten = sym e ∙ y }
 
-    pub down_rests : b ≡ false → HasUnwritten rs at
-    down_rests y = record {
-      tree = held.child;
-      there = held.there;
-      stays = ap (contracts 0) (sym (kind_seen rs at k d.kind held.child held.there)) ∙ sym e ∙ y;
-    }
+    pub down_rests : b ≡ false → HasUnwritten rs at k
+    down_rests y = record { tree = held.child; there = held.there; kind = d.kind; stays = sym e ∙ y }
 
   pub down_falls : (m : ℕ) → 2 * (get_or rs i no_record).first + 1 ≡ m → 2 * (get_or rs at no_record).first < m
   down_falls m e = omega (arith, size_read rs i h.tree h.there, size_read rs at held.child held.there, held.inside)
@@ -250,4 +240,4 @@ module _ (rs : List Record) (i at : ℕ) (passed : Option ℕ) (k : Kind) (d : D
       }
 
 pub ruleset descending =
-    (tree_kind, stepped_child, stepped_two, stepped_one, stepped_falls, stepped_place_fits, rest_tree, rest_known, rest_falls, rest_child, rest_quote, rest_done, rest_place_fits, down_starts, down_rewritten, down_rests, down_falls, down_ends, down_found, down_tree, down_known, down_shortens, down_goes_on)
+    (tree_kind, stepped_child, stepped_two, stepped_one, stepped_falls, stepped_place_fits, rest_tree, rest_falls, rest_child, rest_quote, rest_done, rest_place_fits, down_starts, down_rewritten, down_rests, down_falls, down_ends, down_found, down_tree, down_known, down_shortens, down_goes_on)

@@ -1,6 +1,6 @@
 -- How the search at level 0 goes down a tree: from a root that is rewritten to the child that it steps last.
 use Rattle.std.specs.Prelude.{ℕ, ◌<◌, ◌≡◌, Some, true, false, List}
-use Rattle.rules.specs.Terms.{Term, root_kind, size}
+use Rattle.rules.specs.Terms.{Term, size}
 use Rattle.rules.specs.Contractions.{contracts}
 use Rattle.rules.specs.Format.{Record}
 use Rattle.kinds.specs.declared.names.Kind.{Kind}
@@ -11,11 +11,12 @@ use Rattle.redexes.specs.declared.Found.TheVariants.{Done, Redex}
 use Rattle.terms.specs.Measuring.{KindIs}
 use Rattle.redexes.specs.Finding.{or_here, find, Finds}
 
--- A tree stands at i whose root isn't rewritten at level 0.
-pub record HasUnwritten (rs : List Record) (i : ℕ) : Type 0 where
+-- A tree stands at i whose root, of kind k, isn't rewritten at level 0.
+pub record HasUnwritten (rs : List Record) (i : ℕ) (k : Kind) : Type 0 where
   pub tree : Term
   pub there : At rs i tree
-  pub stays : contracts 0 (root_kind tree) ≡ false
+  pub kind : KindIs rs i k
+  pub stays : contracts 0 (kind_meant k) ≡ false
 
 -- A tree stands at i whose root, of kind k, is rewritten once the children that it steps are done.
 pub record HasRewritten (rs : List Record) (i : ℕ) (k : Kind) : Type 0 where

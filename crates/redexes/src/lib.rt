@@ -31,13 +31,13 @@ fn or_here(inside: Found, here: Option<usize>) -> Found
     }
 }
 
-// What is found at level 0 in the tree at `i`, whose root isn't rewritten. A quote's child is searched at level 1.
+// What is found at level 0 in the tree at `i`, whose root, of this kind, isn't rewritten. A quote's child is searched at level 1.
 #[cycle(find0_find1_find_at_rest_last_stepped)]
-fn find_at_rest(w: &[u8], i: usize) -> Found
-    requires { HasUnwritten (records_in w.now) i }
+fn find_at_rest(w: &[u8], i: usize, kind: Kind) -> Found
+    requires { HasUnwritten (records_in w.now) i kind }
     ensures { Finds 0 (records_in w.now) i result }
 {
-    if terms::root_kind(w, i).first_level(0) == 1 {
+    if kind.first_level(0) == 1 {
         return find1(w, i + 1);
     }
     Found::Done(terms::skip(w, i))
@@ -78,7 +78,7 @@ fn find0(w: &[u8], i: usize) -> Found
         }
         kind = terms::root_kind(w, at);
     }
-    or_here(find_at_rest(w, at), passed)
+    or_here(find_at_rest(w, at, kind), passed)
 }
 
 // Whether a splice may stand at level 1 below the root at `i`, of this kind: the kind is plain, and the tree isn't.

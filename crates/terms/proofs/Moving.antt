@@ -48,14 +48,14 @@ module _ (rs : List Record) (src dst n : ℕ) (h : CanMove rs src dst n) where
     move_ends l = let e : i ≡ n = omega (arith, m.most) in record { is = rw e at m.is }
 
 module _ (s : List ℕ) (src dst n : ℕ) (h : CanMove (records_in s) src dst n) (s' : List ℕ) (i : ℕ) (m : Copying (records_in s) (records_in s') src dst n i) (l : i < n) where
-  pub move_goes_on : (r : Record) (s'' : List ℕ) → r ≡ get_or (records_in s') (src + i) no_record → RecordPut s' (dst + i) r s'' → Copying (records_in s) (records_in s'') src dst n (i + 1)
+  pub move_goes_on : (s'' : List ℕ) → RecordPut s' (dst + i) (get_or (records_in s') (src + i) no_record) s'' → Copying (records_in s) (records_in s'') src dst n (i + 1)
   unfolding puts
-  move_goes_on r s'' e p =
+  move_goes_on s'' p =
       let c = length_part (records_in s) src i (omega (arith, h.from)) in
       let x = get_or (records_in s) (src + i) no_record in
       let one : part (records_in s) (src + i) 1 ≡ x ∷ [] = part_cons (records_in s) (src + i) 0 (omega (arith, h.from)) in
       record {
-        is = p.things ∙ ap₂ (λ rs y. set rs (dst + i) y) m.is (e ∙ still (records_in s) src dst n h (records_in s') i m l)
+        is = p.things ∙ ap₂ (λ rs y. set rs (dst + i) y) m.is (still (records_in s) src dst n h (records_in s') i m l)
             ∙ ap (λ k. set (puts (records_in s) dst (part (records_in s) src i)) (dst + k) x) (sym c)
             ∙ sym (puts_append (records_in s) dst (part (records_in s) src i) (x ∷ []))
             ∙ ap (puts (records_in s) dst) (ap (◌++◌ (part (records_in s) src i)) (sym one) ∙ sym (part_add (records_in s) src i 1));

@@ -1,5 +1,5 @@
 -- What is read of a tree's measures, and how they are made of a root and its children's.
-use Rattle.std.specs.Prelude.{ℕ, zero, suc, ◌+◌, ◌-◌, ◌*◌, ◌≤◌, ◌<◌, max, List, Bool, ◌&&◌, ◌≡◌, length, get_or, set}
+use Rattle.std.specs.Prelude.{ℕ, zero, suc, ◌+◌, ◌-◌, ◌*◌, ◌≤◌, ◌<◌, max, List, Bool, ◌&&◌, ◌≡◌, length, get_or, set, eqb}
 use Rattle.rules.specs.Kinds.{Kind, kind_number, kind_of}
 use Rattle.rules.specs.Terms.{Fields, Term, root_kind, fields_of, size}
 use Rattle.rules.specs.Binders.{binders_first, binders_second}
@@ -8,7 +8,7 @@ use Rattle.rules.specs.FreeBounds.{own_bound, free_bound}
 use Rattle.rules.specs.Values.{plain}
 use Rattle.rules.specs.Format.{Record, no_record}
 use Rattle.kinds.specs.declared.names.Kind.{Kind as NamedKind}
-use Rattle.kinds.specs.Named.{kind_meant, IsKind}
+use Rattle.kinds.specs.Named.{kind_meant, IsKind, is_match}
 use Rattle.terms.specs.Children.{kids, preorders}
 use Rattle.terms.specs.declared.measuring.Measure.{Measure}
 use Rattle.terms.specs.Preorder.{head, There, At}
@@ -26,6 +26,13 @@ pub record HasKind (rs : List Record) (i : ℕ) : Type 0 where
 -- k names the kind of the record at i.
 pub record KindIs (rs : List Record) (i : ℕ) (k : NamedKind) : Type 0 where
   pub is : kind_meant k ≡ kind_of (get_or rs i no_record).kind
+
+-- b tells whether the record at i is of kind k, and whether it is a match.
+pub record RootIs (rs : List Record) (i : ℕ) (k : NamedKind) (b : Bool) : Type 0 where
+  pub is : b ≡ eqb (get_or rs i no_record).kind (kind_number (kind_meant k))
+
+pub record MatchIs (rs : List Record) (i : ℕ) (b : Bool) : Type 0 where
+  pub is : b ≡ is_match (kind_of (get_or rs i no_record).kind)
 
 -- b is the free bound of the tree at i, and p says whether it is plain.
 pub record BoundIs (rs : List Record) (i b : ℕ) : Type 0 where

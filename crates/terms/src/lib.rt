@@ -12,17 +12,18 @@ ghost use Rattle.terms.specs.Moves.{CanMove, Moved};
 ghost use Rattle.records.specs.Places.{Within};
 ghost use Rattle.terms.specs.Loads.{CanPutRoot, PutsRoot, CanLoad};
 
-pub use measuring::{binders_over, bound_at, is_plain_at, mark_root, relink, root_kind, skip};
+pub use measuring::{
+    binders_over, bound_at, is_match_at, is_plain_at, mark_root, relink, root_is, root_kind, skip,
+};
 
 // Copies the `n` records from `src` on to `dst`, as they are. The first goes first, so that the two parts may overlap where `dst` is before `src`.
-// A loop over the records: by the library's `copy_within` a step of a small term takes 1.2 times as long.
+// Record by record: by one `copy_within` for all a step of a small term takes 1.2 times as long.
 pub fn copy_flat(w: &mut [u8], src: usize, dst: usize, n: usize)
     requires { CanMove (records_in w.old) src dst n }
     ensures { Moved (records_in w.old) (records_in w.new) src dst n }
 {
     for i in 0..n {
-        let r = records::get(w, src + i);
-        records::put(w, dst + i, r);
+        records::copy(w, src + i, dst + i);
     }
 }
 

@@ -4,7 +4,7 @@ ghost use Rattle.rules.specs.Lists.{pick};
 ghost use Rattle.kinds.specs.Named.{kind_meant};
 ghost use Rattle.records.specs.View.{records_in};
 ghost use Rattle.terms.specs.Preorder.{HasTree, Skips};
-ghost use Rattle.terms.specs.Measuring.{binders_over, HasKind, KindIs, BoundIs, PlainIs, OwnIndexFits, OwnIs, Joins, HasRooted, MeasuresTree, Relinks, MarksRoot};
+ghost use Rattle.terms.specs.Measuring.{binders_over, HasKind, KindIs, RootIs, MatchIs, BoundIs, PlainIs, OwnIndexFits, OwnIs, Joins, HasRooted, MeasuresTree, Relinks, MarksRoot};
 
 use kinds::{Kind, Use};
 use records::Record;
@@ -24,6 +24,24 @@ pub fn root_kind(w: &[u8], i: usize) -> Kind
 {
     let r = records::get(w, i);
     Kind::known(r.kind)
+}
+
+// Whether the record at `i` is of this kind. Numbers are compared: no kind is made of the record's.
+pub fn root_is(w: &[u8], i: usize, kind: Kind) -> bool
+    requires { HasKind (records_in w.now) i }
+    ensures { RootIs (records_in w.now) i kind result }
+{
+    let r = records::get(w, i);
+    r.kind == kind.number()
+}
+
+// Whether the record at `i` is a match: those are the kinds after the splice.
+pub fn is_match_at(w: &[u8], i: usize) -> bool
+    requires { HasKind (records_in w.now) i }
+    ensures { MatchIs (records_in w.now) i result }
+{
+    let r = records::get(w, i);
+    Kind::Splice.number() < r.kind
 }
 
 // The place after the tree at `i`.
@@ -97,7 +115,7 @@ fn measured(w: &[u8], i: usize) -> Measure
     ensures { MeasuresTree (records_in w.now) i result }
 {
     let r = records::get(w, i);
-    let kind = Kind::known(r.kind);
+    let kind = Kind::of(r.kind);
     let mut m = Measure {
         end: i + 1,
         bound: own_bound(kind, r.a),

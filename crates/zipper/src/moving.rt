@@ -5,8 +5,8 @@ ghost use Rattle.zipper.specs.Moving.{CanMoveUp, CanPutAhead, PutsAhead, HasMatc
 
 use crate::focus::{Ahead, Focus, link_at, skip_all};
 
-// Copies the `n` records from `src` on up to `dst`, as they are, from the last one on: the two parts may have records in common. A loop, as
-// `copy_flat` is.
+// Copies the `n` records from `src` on up to `dst`, as they are, from the last one on: the two parts may have records in common.
+// Record by record, as `copy_flat` does.
 fn copy_up(w: &mut [u8], src: usize, dst: usize, n: usize)
     requires { CanMoveUp (records_in w.old) src dst n }
     ensures { Moved (records_in w.old) (records_in w.new) src dst n }
@@ -15,8 +15,7 @@ fn copy_up(w: &mut [u8], src: usize, dst: usize, n: usize)
         return;
     }
     for i in (0..n).rev() {
-        let r = records::get(w, src + i);
-        records::put(w, dst + i, r);
+        records::copy(w, src + i, dst + i);
     }
 }
 

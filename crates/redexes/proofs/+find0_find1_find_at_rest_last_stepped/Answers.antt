@@ -37,9 +37,6 @@ find1-find0-requires t c = search (splicing, rules)
 pub find1-returns-in-Redex : goal.find1-returns-in-Redex
 find1-returns-in-Redex t c = search (splicing, rules)
 
-pub find_at_rest-root_kind-requires : goal.find_at_rest-root_kind-requires
-find_at_rest-root_kind-requires t c = search (descending, rules)
-
 pub find_at_rest-overflow_add-i : goal.find_at_rest-overflow_add-i
 find_at_rest-overflow_add-i t c = search (descending, rules)
 

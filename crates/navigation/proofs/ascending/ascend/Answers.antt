@@ -18,8 +18,8 @@ steps_next-requires c = search (climbing, rules)
 pub returns-then-steps_next : goal.returns-then-steps_next
 returns-then-steps_next c = search (climbing, rules)
 
-pub returns-then-children-eq3 : goal.returns-then-children-eq3
-returns-then-children-eq3 c = search (climbing, rules)
+pub returns-then-is_match : goal.returns-then-is_match
+returns-then-is_match c = search (climbing, rules)
 
 pub close-at-requires : goal.close-at-requires
 close-at-requires c = search (climbing, rules)

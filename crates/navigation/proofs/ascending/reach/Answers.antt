@@ -3,8 +3,8 @@ use borrow.Author.Rules.{rules}
 use Rattle.navigation.proofs.Reaching.{reaching}
 use Rattle.navigation.proofs.ascending.reach.Goals as goal
 
-pub root_kind-kind-requires : goal.root_kind-kind-requires
-root_kind-kind-requires c = search (reaching, rules)
+pub is_match_at-requires : goal.is_match_at-requires
+is_match_at-requires c = search (reaching, rules)
 
 pub open_ahead-code-requires : goal.open_ahead-code-requires
 open_ahead-code-requires c = search (reaching, rules)
@@ -12,8 +12,8 @@ open_ahead-code-requires c = search (reaching, rules)
 pub bring-requires : goal.bring-requires
 bring-requires c = search (reaching, rules)
 
-pub returns-then-children-eq3 : goal.returns-then-children-eq3
-returns-then-children-eq3 c = search (reaching, rules)
+pub returns-then-is_match_at : goal.returns-then-is_match_at
+returns-then-is_match_at c = search (reaching, rules)
 
 pub returns : goal.returns
 returns c = search (reaching, rules)

@@ -7,10 +7,10 @@ pub overflow_add-m : goal.overflow_add-m
 overflow_add-m c = search (joining, rules)
 
 pub own_bound-requires : goal.own_bound-requires
-own_bound-requires c = index_fits _ _ _ c.get-r.ensures _ c.known-kind.ensures c.requires
+own_bound-requires c = index_fits _ _ _ c.get-r.ensures _ c.of-kind.ensures c.requires
 
 pub loop-j-init : goal.loop-j-init
-loop-j-init c = joining_starts _ _ _ c.get-r.ensures _ c.known-kind.ensures _ _ c.own_bound.ensures c.is_plain.ensures c.requires
+loop-j-init c = joining_starts _ _ _ c.get-r.ensures _ c.of-kind.ensures _ _ c.own_bound.ensures c.is_plain.ensures c.requires
 
 pub with_child-m-requires : goal.with_child-m-requires
 with_child-m-requires c = search (joining, rules)

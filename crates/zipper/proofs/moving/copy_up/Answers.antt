@@ -12,14 +12,14 @@ loop-i-init c = search (moving_up, rules)
 pub overflow_add-src : goal.overflow_add-src
 overflow_add-src c = search (moving_up, rules)
 
-pub get-r-requires : goal.get-r-requires
-get-r-requires c = search (moving_up, rules)
+pub copy-requires-clause-from : goal.copy-requires-clause-from
+copy-requires-clause-from c = search (moving_up, rules)
 
 pub overflow_add-dst : goal.overflow_add-dst
 overflow_add-dst c = search (moving_up, rules)
 
-pub put-requires : goal.put-requires
-put-requires c = search (moving_up, rules)
+pub copy-requires-clause-to : goal.copy-requires-clause-to
+copy-requires-clause-to c = search (moving_up, rules)
 
 pub loop-i-preserved : goal.loop-i-preserved
 loop-i-preserved c = search (moving_up, rules)
