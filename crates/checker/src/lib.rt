@@ -51,7 +51,7 @@ fn form_refusal(table: &[u8], records: &[u8], edition: Edition, given: bool) -> 
 
 // The refusal of a program for its length and its counts: 3, 4 and 5.
 #[tactic(auto, using(crate::proofs::Counts::counting))]
-fn size_refusal(program: &[u8]) -> Result<(), Reason>
+pub fn size_refusal(program: &[u8]) -> Result<(), Reason>
     ensures { ReportsWhole result (size_refusal program.now) }
 {
     let length = program.len();
@@ -71,10 +71,9 @@ fn size_refusal(program: &[u8]) -> Result<(), Reason>
 }
 
 // The refusal of a program of the edition whose length and counts are good: those of its table and records, and then, where its types are given, those
-// of its types. It comes back through memory. So the functions below end with `?` and `Ok(())` and not with the call itself, by which their earlier refusals
-// are written into that memory too: a refusal by the counts then takes 1.7 times as long.
+// of its types.
 #[tactic(auto, using(crate::proofs::Parts::parting, crate::proofs::Passed::walking_on))]
-fn parts_refusal(program: &[u8], edition: Edition, given: bool) -> Result<(), Refusal>
+pub fn parts_refusal(program: &[u8], edition: Edition, given: bool) -> Result<(), Refusal>
     requires { SizePasses program.now }
     ensures { Reports result (refusal_with (type_fields_meant given) (edition_meant edition) program.now) }
 {
