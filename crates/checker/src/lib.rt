@@ -91,8 +91,7 @@ pub fn layout_refusal(program: &[u8], edition: Edition) -> Result<(), Refusal>
     ensures { Reports result (layout_refusal omitted (edition_meant edition) program.now) }
 {
     size_refusal(program)?;
-    parts_refusal(program, edition, false)?;
-    Ok(())
+    parts_refusal(program, edition, false)
 }
 
 // The refusal of a program of the edition, or none where it is passed.
@@ -101,6 +100,5 @@ pub fn program_refusal(program: &[u8], edition: Edition) -> Result<(), Refusal>
     ensures { Reports result (refusal (edition_meant edition) program.now) }
 {
     size_refusal(program)?;
-    parts_refusal(program, edition, true)?;
-    Ok(())
+    parts_refusal(program, edition, true)
 }
