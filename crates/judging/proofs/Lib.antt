@@ -1,6 +1,5 @@
--- The laws of the judging of a record: what it reads, the type rule of a match, and the order of the three rules, and what the number of
--- the answer names.
+-- The laws of the judging of a record: the stack of binders, what is read, the type rule of a match, and the order of the three rules.
+pub mod Stacking
 pub mod Reading
 pub mod TypeRule
 pub mod Order
-pub mod Naming

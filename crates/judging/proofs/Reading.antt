@@ -1,7 +1,7 @@
 -- What the judging reads: an entry of the table by its number, and a binder of the stack by its index.
 use Prim.Native.Nat.{ℕ, zero, suc, ◌-◌, ◌*◌, ◌/◌, ◌%◌, ◌≤◌, ◌<◌}
 use native.Mathlib.Omega.{arith}
-use mathlib.Core.Path.{◌≡◌, refl, sym, ap, ◌∙◌}
+use mathlib.Core.Path.{◌≡◌, sym, ap, ◌∙◌}
 use mathlib.Core.List.{List, ◌∷◌}
 use lib.ListN.{length, get_or, get_or-eq_default}
 use Rattle.rules.specs.Types.{no_entry}
@@ -13,6 +13,7 @@ use Rattle.records.specs.Places.{Within, IsEntry}
 use Rattle.records.proofs.Entries.{entries_length}
 use Rattle.judging.specs.Stack.{decoded, stack}
 use Rattle.judging.specs.Tests.{IsBinder}
+use Rattle.judging.proofs.Stacking.{stack_length}
 
 -- Number 0 and a number past the table are no entries; another is one.
 module _ (s : List ℕ) (n : ℕ) where
@@ -26,12 +27,7 @@ module _ (s : List ℕ) (n : ℕ) where
   pub entry_there : (n ≡ 0 → ⊥) → 6 * n ≤ length s → Within (entries_in s) n
   entry_there z h = record { some = omega arith; most = omega (arith, entries_length s) }
 
--- The binders of the stack: how many, and each by its index.
-pub stack_length : (bs : List ℕ) (d : ℕ) → length (stack bs d) ≡ d
-unfolding stack
-stack_length bs zero = refl
-stack_length bs (suc d) = ap suc (stack_length bs d)
-
+-- A binder of the stack, by its index.
 stack_at : (bs : List ℕ) (d i : ℕ) → i < d → binder (stack bs d) i ≡ decoded (get_or bs (d - 1 - i) 0)
 unfolding stack
 stack_at bs zero i h = absurd (omega arith)

@@ -1,8 +1,9 @@
 -- The type rule of a match: that of its children, then its pattern.
 use Prim.Native.Nat.{ℕ}
 use mathlib.Core.Path.{◌≡◌, refl, sym, ap, ap₂, ◌∙◌}
-use mathlib.Core.List.{[], ◌∷◌, ◌++◌}
+use mathlib.Core.List.{List, [], ◌∷◌, ◌++◌}
 use mathlib.Core.Bool.{Bool, ◌&&◌, and_assoc}
+use Rattle.std.specs.Prelude.{slice_index}
 use Rattle.rules.specs.Terms.{Fields}
 use Rattle.rules.specs.Types.{Table, part_a}
 use Rattle.rules.specs.Conditions.{met, Rule, holds}
@@ -42,11 +43,20 @@ typed_match : (types : Table) (Γ : Env) (f : Fields) (x y z : ℕ) (kind : Kind
     → typed types Γ (kind_meant kind) f x y z ≡ match_children_rule types f.type x y z ++ pattern_of types Γ (kind_meant kind) f (part_a types x)
 typed_match types Γ f x y z kind m = rw m.is
 
-pub match_type : (types : Table) (ty : ℕ) (kind : Kind) (r : Record) (x y z : ℕ) (e : Entry) (s t : Bool) → IsMatch kind → IsEntry types x e
-    → Tests (match_children_rule types r.ty x y z) s → PatternTest types ty kind r e.a t → TypeTest types ty kind r x y z (s && t)
-match_type types ty kind r x y z e s t m i hs ht = record {
-  is = λ Γ g.
-      let p = pattern_of types Γ (kind_meant kind) (fields_meant r) in
-      let u : t ≡ holds (p (part_a types x)) = ht.is Γ g ∙ ap (λ C. holds (p C)) (ap (λ v. v.a) i.is) in
-      ap₂ ◌&&◌ hs.is u ∙ holds_both (match_children_rule types r.ty x y z) (p (part_a types x)) ∙ sym (ap holds (typed_match types Γ (fields_meant r) x y z kind m));
-}
+module _ (types : Table) (ty : ℕ) (kind : Kind) (r : Record) (cs : List ℕ) (m : IsMatch kind) where
+  abbrev x : ℕ
+  x = slice_index cs 0
+
+  abbrev y : ℕ
+  y = slice_index cs 1
+
+  abbrev z : ℕ
+  z = slice_index cs 2
+
+  pub match_type : (e : Entry) (s t : Bool) → IsEntry types x e → Tests (match_children_rule types r.ty x y z) s → PatternTest types ty kind r e.a t → TypeTest types ty kind r cs (s && t)
+  match_type e s t i hs ht = record {
+    is = λ Γ g.
+        let p = pattern_of types Γ (kind_meant kind) (fields_meant r) in
+        let u : t ≡ holds (p (part_a types x)) = ht.is Γ g ∙ ap (λ C. holds (p C)) (ap (λ v. v.a) i.is) in
+        ap₂ ◌&&◌ hs.is u ∙ holds_both (match_children_rule types r.ty x y z) (p (part_a types x)) ∙ sym (ap holds (typed_match types Γ (fields_meant r) x y z kind m));
+  }

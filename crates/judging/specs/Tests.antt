@@ -1,15 +1,14 @@
 -- What the parts of the judging of a record answer: a truth value q that is the test of a rule. The code knows of the binders Γ no more
 -- than how many they are and which one the record's index names, so what it says of them holds for every such Γ.
-use Rattle.std.specs.Prelude.{ℕ, ◌≤◌, ◌≡◌, [], ◌∷◌, Bool, length, eqb, Result, Ok, Err}
+use Rattle.std.specs.Prelude.{ℕ, ◌≡◌, List, [], ◌∷◌, Bool, length, slice_index, Result, Ok, Err}
 use Rattle.std.proofs.Math.Option.{Option, none, some}
-use Rattle.rules.specs.Lists.{pick}
 use Rattle.rules.specs.Kinds.{Shape, Match, match, leaf₀, unary₁, binary₂, ternary₃}
 use Rattle.rules.specs.Kinds.{Kind as MeantKind}
 use Rattle.rules.specs.Terms.{Fields}
 use Rattle.rules.specs.Types.{Table, Entry as MeantEntry, entry, Code, part_a}
 use Rattle.rules.specs.Conditions.{equal, same, Rule, holds}
 use Rattle.rules.specs.Typing.{Binder as MeantBinder, Env, binder, bind, bound, placed, typed, shape, pattern}
-use Rattle.rules.specs.Refusals.{Refusal, bad_index, bad_type}
+use Rattle.rules.specs.Refusals.{Refusal}
 use Rattle.rules.specs.Check.{judged}
 use Rattle.kinds.specs.declared.names.Kind.{Kind}
 use Rattle.kinds.specs.Named.{kind_meant}
@@ -67,18 +66,15 @@ pub record IndexTest (kind : Kind) (a depth : ℕ) (q : Bool) : Type 0 where
 pub record LevelTest (kind : Kind) (l level : ℕ) (q : Bool) : Type 0 where
   pub is : (Γ : Env) (f : Fields) → (binder Γ f.a).level ≡ level → q ≡ holds (placed Γ l (kind_meant kind) f)
 
-pub record TypeTest (types : Table) (ty : ℕ) (kind : Kind) (r : Record) (x y z : ℕ) (q : Bool) : Type 0 where
-  pub is : (Γ : Env) → (binder Γ r.a).type ≡ ty → q ≡ holds (typed types Γ (kind_meant kind) (fields_meant r) x y z)
+pub record TypeTest (types : Table) (ty : ℕ) (kind : Kind) (r : Record) (children : List ℕ) (q : Bool) : Type 0 where
+  pub is : (Γ : Env) → (binder Γ r.a).type ≡ ty
+      → q ≡ holds (typed types Γ (kind_meant kind) (fields_meant r) (slice_index children 0) (slice_index children 1) (slice_index children 2))
 
--- The refusal by a number, at a place; by 0 nothing is refused.
-abbrev pub refusal_at : ℕ → ℕ → Option Refusal
-refusal_at number place = pick (eqb number 0) none (some (record { number = number; place = place }))
+-- What the answer says of a record at its place: why it is refused, or that it is not.
+abbrev pub refused_at : ℕ → Result Unit Reason → Option Refusal
+refused_at n (Ok x) = none
+refused_at n (Err reason) = some (record { number = reason_number reason; place = n })
 
--- q is the number of the refusal of a record of a kind with the fields of r, whatever its place n, or 0.
-pub record Judges (types : Table) (Γ : Env) (l : ℕ) (kind : Kind) (r : Record) (x y z q : ℕ) : Type 0 where
-  pub tells : (n : ℕ) → refusal_at q n ≡ judged types Γ l n (kind_meant kind) (fields_meant r) x y z
-
--- What a number says that `judge` answers: where it is 0 nothing is refused, and else the reason of that number.
-abbrev pub Names : ℕ → Result Unit Reason → Type 0
-Names number (Ok x) = number ≡ 0
-Names number (Err reason) = (number ≡ 0 → ⊥) × (bad_index ≤ number → number ≤ bad_type → reason_number reason ≡ number)
+-- q is the fault of a record of a kind with the fields of r, whatever its place n, where its children have these types: the lowest of 10 to 12.
+pub record Judges (types : Table) (Γ : Env) (l : ℕ) (kind : Kind) (r : Record) (children : List ℕ) (q : Result Unit Reason) : Type 0 where
+  pub tells : (n : ℕ) → refused_at n q ≡ judged types Γ l n (kind_meant kind) (fields_meant r) (slice_index children 0) (slice_index children 1) (slice_index children 2)

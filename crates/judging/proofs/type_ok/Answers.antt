@@ -10,5 +10,5 @@ pattern_ok-requires c =
 pub returns-in_default : goal.returns-in_default
 returns-in_default c =
     let o = c.in_default in
-    match_type _ _ _ _ _ _ _ _ _ _ (a_match _ o.not-Number o.not-Variable o.not-Function o.not-Application o.not-Fix o.not-Lift o.not-Quote o.not-Splice)
-    c.entry_if_any-e.ensures c.match_children_ok.ensures c.pattern_ok.ensures
+    match_type _ _ _ _ _ (a_match _ o.not-Number o.not-Variable o.not-Function o.not-Application o.not-Fix o.not-Lift o.not-Quote o.not-Splice)
+    _ _ _ c.entry_if_any-e.ensures c.match_children_ok.ensures c.pattern_ok.ensures
