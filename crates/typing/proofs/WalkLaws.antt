@@ -1,15 +1,16 @@
 -- The laws of the walk.
-use Prim.Native.Nat.{ℕ, ◌+◌, ◌-◌, ◌*◌, ◌/◌, ◌%◌, ◌≤◌, ◌<◌}
+use Prim.Native.Nat.{ℕ, ◌+◌, ◌-◌, ◌*◌, ◌≤◌, ◌<◌}
 use native.Mathlib.Omega.{arith}
-use mathlib.Core.Path.{◌≡◌, refl, ap, sym, ◌∙◌}
-use mathlib.Core.List.{List, []}
-use mathlib.Core.Option.{Option, none, some}
-use lib.ListN.{length}
-use borrow.Author.Tests.{ne_eqb}
-use Rattle.std.specs.Prelude.{Result, Ok, Err, MatchResult, IsErrAnd}
+use mathlib.Core.Path.{◌≡◌, refl, ap, ap₂, sym, ◌∙◌}
+use mathlib.Core.List.{List, [], map}
+use mathlib.Core.Option.{Option, none}
+use lib.ListN.{length, length-append, length-map}
+use Rattle.std.specs.Prelude.{Result, Ok, Err}
 use Rattle.rules.specs.Kinds.{kind_of}
 use Rattle.rules.specs.Types.{Table}
-use Rattle.rules.specs.Typing.{Env, first_level}
+use Rattle.rules.specs.Binders.{over_first, over_second}
+use Rattle.rules.specs.Terms.{Fields}
+use Rattle.rules.specs.Typing.{bind, under, first_level}
 use Rattle.rules.specs.Format.{Record}
 use Rattle.rules.specs.Links.{first_of, next_of}
 use Rattle.rules.specs.Check.{walked}
@@ -20,254 +21,275 @@ use Rattle.rules.proofs.Meaning.{no_bad_link}
 use Rattle.kinds.specs.declared.names.Kind.{Kind}
 use Rattle.kinds.specs.Named.{kind_meant}
 use Rattle.records.specs.declared.Record.{Record as Read}
+use Rattle.records.specs.Meant.{record_meant}
 use Rattle.records.specs.Places.{IsRecord, Follows}
 use Rattle.refusals.specs.declared.reasons.Reason.{Reason}
-use Rattle.refusals.specs.declared.reasons.Refusal.{Refusal as Reported}
-use Rattle.refusals.specs.Reports.{Reports}
 use Rattle.refusals.proofs.Reporting.{reports_first, reports_next}
-use Rattle.judging.specs.Stack.{stack}
-use Rattle.judging.specs.Tests.{refusal_at, Names}
-use Rattle.judging.proofs.Naming.{OfJudging, nothing_named, something_named}
-use Rattle.typing.specs.declared.Child.{Child}
-use Rattle.typing.specs.Reading.{second_of, third_of}
+use Rattle.judging.specs.declared.Binders.{Binders}
+use Rattle.judging.specs.Stack.{binders_of, capacity, outermost, Rebinds}
+use Rattle.judging.specs.Tests.{refused_at}
+use Rattle.judging.proofs.Stacking.{outermost_inside}
+use Rattle.typing.specs.Reading.{second_of, third_of, kind_no, fields_no}
 use Rattle.typing.specs.Pushing.{PushesFirst, PushesSecond}
-use Rattle.typing.specs.Entering.{CanEnter, Enters, EntersFirst, EntersSecond}
-use Rattle.typing.specs.Walking.{judged_at, JudgesRead, tree_size, refusal_in, Packs, Unpacks, CanWalk, Walks, MakeTree}
-use Rattle.typing.proofs.Depths.{stack_below}
-use Rattle.typing.proofs.RecordLaws.{first_link, second_link, its_third}
-use Rattle.typing.proofs.ChildLaws.{enters_first, enters_second}
+use Rattle.typing.specs.Walking.{judged_at, JudgesRead, OfJudging, tree_size, refusal_in, Packs, CanWalk, Walks, MakeTree}
+use Rattle.typing.proofs.RecordLaws.{first_link, second_link, third_link}
+use Rattle.typing.proofs.PushLaws.{first_few, second_few}
 use Rattle.typing.proofs.TreeCounts.{tree_then_chain, record_then_chain, none_after_third}
+use Rattle.typing.proofs.NumberLaws.{passed_number, refused_number}
 use Rattle.typing.proofs.WalkedBy.{from_first, from_second, from_third, walked_by, first_nothing, second_nothing, third_nothing, walked_of_judging}
 
--- A record's tree has a record, so that one is left.
-pub one_left : (rs : List Record) (bs : List ℕ) (d n left : ℕ) → CanWalk rs bs d n left → 1 ≤ left
-one_left rs bs d n left can = omega (arith, can.enough, record_then_chain rs can.chained n can.here.real can.here.within)
+-- A record's tree has a record, so that one is left, and there is room for what the record binds.
+module _ (rs : List Record) (b : Binders) (n left : ℕ) (can : CanWalk rs b n left) where
+  pub one_left : 1 ≤ left
+  one_left = omega (arith, can.enough, record_then_chain rs can.chained n can.here.real can.here.within)
 
-can_enter : (rs : List Record) (bs : List ℕ) (d n left : ℕ) → CanWalk rs bs d n left → CanEnter rs bs d n
-can_enter rs bs d n left can = record { here = can.here; room = omega (arith, can.room, one_left rs bs d n left can) }
-
--- What the number says that the walk hands back.
-passed_number : (q : ℕ) → q < 65536 → none ≡ refusal_in q
-unfolding refusal_in
-passed_number q h = let e : q / 65536 ≡ 0 = omega arith in rw e
-
-refused_number : (q : ℕ) → 65536 ≤ q → refusal_in q ≡ some (record { number = q / 65536; place = q % 65536 })
-unfolding refusal_in
-refused_number q h = let some_number : q / 65536 ≡ 0 → ⊥ = omega arith in rw (ne_eqb (q / 65536) 0 some_number)
-
-pub packs : (number place : ℕ) → 1 ≤ number → place < 65536 → Packs number place (65536 * number + place)
-packs number place h k =
-    let q = 65536 * number + place in
-    let a : q / 65536 ≡ number = omega arith in
-    let b : q % 65536 ≡ place = omega arith in
-    record { holds = refused_number q (omega arith) ∙ (λ i. some (record { number = a i; place = b i })); refused = omega arith }
-
--- What its parts say: by `judged` of the number, with the place put beside the reason.
-pub unpacks : (q : ℕ) (j : Result Unit Reason) (r : Result Unit Reported) (Placed : Reason → Reported → Type 0) → Names (q / 65536) j
-    → ((e : Reason) (x : Reported) → Placed e x → x ≡ record { reason = e; place = q % 65536 }) → MatchResult j (λ x. r ≡ Ok x) (λ e. IsErrAnd r (Placed e)) → Unpacks q r
-unpacks q (Ok x) r Placed h k m = rw m h
-unpacks q (Err e) (Ok x) Placed h k m = absurd m
-unpacks q (Err e) (Err x) Placed h k m = rw (k e x m) (h, refl)
-
-unpacked : (q : ℕ) (r : Result Unit Reported) (o : Option Refusal) → Unpacks q r → OfJudging o → refusal_in q ≡ o → Reports r o
-unfolding refusal_in
-unpacked q (Ok x) o u j e = nothing_named (q / 65536) (q % 65536) o e u
-unpacked q (Err r) o (h, p) j e = rw p (something_named (q / 65536) (q % 65536) o r.reason j e h)
+  pub room_first : length (binders_of b) + 2 ≤ capacity b
+  room_first = omega (arith, can.room, one_left)
 
 -- How far the walk of record n has come. Its checks so far have passed, so that it says what the `rest` of them says, which begins with the tree of
--- `child`; q is its answer where there is no such child. The stack, which was bs, is bs' with what is below the depth kept.
-record WalkedSoFar (types : Table) (rs : List Record) (bs bs' : List ℕ) (d l n left q child : ℕ) (rest : Option Refusal) : Type 0 where
-  pub can : CanWalk rs bs' d n left
-  pub kept : stack bs' d ≡ stack bs d
-  pub says : rest ≡ walked (length rs) types rs (stack bs d) l n
+-- `child`; q is its answer where there is no such child. The binders b' are those before it.
+record WalkedSoFar (types : Table) (rs : List Record) (b b' : Binders) (l n left q child : ℕ) (rest : Option Refusal) : Type 0 where
+  pub kept : Rebinds b b' (binders_of b)
+  pub says : rest ≡ walked (length rs) types rs (binders_of b) l n
   pub nothing : child ≡ 0 → rest ≡ none
   pub falls : q < left
   pub counted : q + tree_size rs n ≡ left + chain_size rs child
 
-module _ (types : Table) (rs : List Record) (bs bs₀ : List ℕ) (d l n left q child : ℕ) (rest : Option Refusal)
-    (far : WalkedSoFar types rs bs bs₀ d l n left q child rest) where
+-- Inside the binders b, variables of the types ns are bound at level m, two at most.
+record BindsFew (m : ℕ) (ns : List ℕ) (b b' : Binders) : Type 0 where
+  pub pushed : Rebinds b b' (under m ns (binders_of b))
+  pub few : length ns ≤ 2
+
+module _ {types : Table} {rs : List Record} {b : Binders} {l n left : ℕ} (can : CanWalk rs b n left)
+    {b₀ : Binders} {q child : ℕ} {rest : Option Refusal} (far : WalkedSoFar types rs b b₀ l n left q child rest) where
   -- Without a child the walk ends.
-  ends : child ≡ 0 → Walks types rs bs bs₀ d l n left q
+  ends : child ≡ 0 → Walks types rs b b₀ l n left q
   ends e = record {
-    tells = sym (passed_number q (omega (arith, far.falls, far.can.most))) ∙ sym (far.nothing e) ∙ far.says;
+    tells = sym (passed_number q (omega (arith, far.falls, can.most))) ∙ sym (far.nothing e) ∙ far.says;
     counted = λ _. omega (arith, far.counted, ap (chain_size rs) e, chain_none rs);
     kept = far.kept;
   }
 
   -- A child's tree can be walked with the records left.
-  module _ (bs₁ : List ℕ) (c : Child) (Γ : Env) (k : ℕ) (enters : Enters Γ k child bs₀ bs₁ d c) (within : child ≤ length rs) (there : c.n ≡ 0 → ⊥) where
+  module _ (there : child ≡ 0 → ⊥) (within : child ≤ length rs) {m : ℕ} {ns : List ℕ} {b₁ : Binders} (over : BindsFew m ns b₀ b₁) where
+    inside : binders_of b₁ ≡ under m ns (binders_of b)
+    inside = over.pushed.are ∙ ap (under m ns) far.kept.are
+
+    deep : length (binders_of b₁) ≡ length ns + length (binders_of b)
+    deep = ap length inside ∙ simp (length-append, length-map)
+
     real : 1 ≤ child
-    real = omega (arith, enters.number, there)
+    real = omega (arith, there)
 
-    goes : length bs₁ ≡ length bs₀ → CanWalk rs bs₁ c.depth c.n q
-    goes same = rw enters.number (record {
-      here = record { linked = far.can.here.linked; real = real; within = within };
-      chained = far.can.chained;
-      enough = omega (arith, far.counted, far.can.enough, tree_then_chain rs far.can.chained child real within);
-      most = omega (arith, far.falls, far.can.most);
-      room = omega (arith, far.falls, far.can.room, enters.most);
-    })
-
-    -- The child's tree stops the walk, or passes.
-    module _ (bs₂ : List ℕ) (p : ℕ) (walk : Walks types rs bs₁ bs₂ c.depth c.level c.n q p) where
-      told : refusal_in p ≡ walked (length rs) types rs Γ k child
-      told = rw (← enters.over, ← enters.level, ← enters.number) walk.tells
-
-      kept : stack bs₂ d ≡ stack bs d
-      kept = stack_below bs₂ bs₁ d c.depth enters.above walk.kept ∙ enters.kept ∙ far.kept
-
-      left_after : p < 65536 → p + tree_size rs n ≡ left + chain_size rs (next_of rs child)
-      left_after e = omega (arith, far.counted, walk.counted e, ap (tree_size rs) enters.number, tree_then_chain rs far.can.chained child real within)
-
-      module _ (more : Option Refusal) (begins : rest ≡ walked (length rs) types rs Γ k child then more) where
-        stops : 65536 ≤ p → Walks types rs bs bs₂ d l n left p
-        stops h = record {
-          tells = refused_number p h ∙ reports_first _ _ more (sym (refused_number p h) ∙ told) ∙ sym begins ∙ far.says;
-          counted = λ e. absurd (omega arith);
-          kept = kept;
-        }
-
-        passes : (next_of rs child ≡ 0 → more ≡ none) → p < 65536 → length bs₁ ≡ length bs₀ → length bs₂ ≡ length bs₁
-            → WalkedSoFar types rs bs bs₂ d l n left p (next_of rs child) more
-        passes nothing e same₁ same₂ = record {
-          can = record { here = far.can.here; chained = far.can.chained; enough = far.can.enough; most = far.can.most; room = omega (arith, far.can.room) };
-          kept = kept;
-          says = reports_next more _ more (passed_number p e ∙ told) refl ∙ sym begins ∙ far.says;
-          nothing = nothing;
-          falls = omega (arith, far.falls, walk.counted e);
-          counted = left_after e;
-        }
-
--- The walk of record n, which is r, of this kind; v is the number of its own fault. Its checks stop the walk, or pass.
-module _ (types : Table) (rs : List Record) (bs : List ℕ) (d l n left : ℕ) (can : CanWalk rs bs d n left) (r : Read) (own : IsRecord rs n r) where
-  module _ (kind : Kind) (named : kind_meant kind ≡ kind_of r.kind) (v : ℕ) (judged : JudgesRead types rs (stack bs d) l kind r v) where
-    by_own : judged_at types rs (stack bs d) l n then from_first types rs (stack bs d) l n ≡ walked (length rs) types rs (stack bs d) l n
-    by_own = sym (walked_by types rs (stack bs d) l n can.here.real can.here.within)
-
-    own_told : refusal_at v n ≡ judged_at types rs (stack bs d) l n
-    own_told = judged.tells n can.here own named
-
-    pub stops_own : (q : ℕ) → (v ≡ 0 → ⊥) → Packs v n q → Walks types rs bs bs d l n left q
-    stops_own q h p = record {
-      tells = p.holds ∙ reports_first _ _ _ (rw (ne_eqb v 0 h) at own_told) ∙ by_own;
-      counted = λ e. absurd (omega (arith, p.refused));
-      kept = refl;
+    goes : CanWalk rs b₁ child q
+    goes = record {
+      here = record { linked = can.here.linked; real = real; within = within };
+      chained = can.chained;
+      enough = omega (arith, far.counted, can.enough, tree_then_chain rs can.chained child real within);
+      most = omega (arith, far.falls, can.most);
+      room = omega (arith, far.falls, can.room, over.few, deep, far.kept.room, over.pushed.room);
     }
 
-    module _ (z : v ≡ 0) where
-      passes_own : WalkedSoFar types rs bs bs d l n left (left - 1) (first_of rs n) (from_first types rs (stack bs d) l n)
-      passes_own = let some = one_left rs bs d n left can in record {
-        can = can;
-        kept = refl;
-        says = reports_next _ _ _ (rw z at own_told) refl ∙ by_own;
-        nothing = first_nothing types rs (stack bs d) l n;
-        falls = omega arith;
-        counted = omega (arith, record_then_chain rs can.chained n can.here.real can.here.within);
+    -- The child's tree stops the walk, or passes. What is bound over it is left again.
+    module _ {k : ℕ} {b₂ : Binders} {p : ℕ} (walk : Walks types rs b₁ b₂ k child q p) where
+      bound : {depth : ℕ} → depth ≡ length (binders_of b) → depth ≤ length (binders_of b₂)
+      bound e = omega (arith, ap length walk.kept.are, deep)
+
+      left_again : {depth : ℕ} {b₃ : Binders} → depth ≡ length (binders_of b) → Rebinds b₂ b₃ (outermost depth (binders_of b₂)) → Rebinds b b₃ (binders_of b)
+      left_again e cut = record {
+        are = cut.are ∙ ap₂ outermost e (walk.kept.are ∙ inside) ∙ outermost_inside (map (bind m) ns) (binders_of b);
+        room = cut.room ∙ walk.kept.room ∙ over.pushed.room ∙ far.kept.room;
       }
 
-      pub ends_leaf : r.first ≡ 0 → Walks types rs bs bs d l n left (left - 1)
-      ends_leaf e = ends types rs bs bs d l n left (left - 1) _ _ passes_own (sym (first_link rs n r own can.here) ∙ e)
+      left_after : p < 65536 → p + tree_size rs n ≡ left + chain_size rs (next_of rs child)
+      left_after e = omega (arith, far.counted, walk.counted e, tree_then_chain rs can.chained child real within)
 
-      -- The first child's tree.
-      module _ (there : r.first ≡ 0 → ⊥) (bs₁ : List ℕ) (inner m : ℕ) (pushed : PushesFirst kind l r.a bs bs₁ d inner) (at : m ≡ first_level (kind_meant kind) l)
-          (same₁ : length bs₁ ≡ length bs) where
-        abbrev first : Child
-        first = record { n = r.first; level = m; depth = inner }
+      told : refusal_in p ≡ walked (length rs) types rs (under m ns (binders_of b)) k child
+      told = rw inside at walk.tells
 
-        enters₁ : EntersFirst rs bs bs₁ d l n first
-        enters₁ = enters_first rs bs bs₁ d l n inner r own can.here kind named m pushed at
+      module _ (more : Option Refusal) (begins : rest ≡ walked (length rs) types rs (under m ns (binders_of b)) k child then more)
+          {b₃ : Binders} (kept : Rebinds b b₃ (binders_of b)) where
+        stops : 65536 ≤ p → Walks types rs b b₃ l n left p
+        stops h =
+            let refused = refused_number p (omega arith) in
+            record {
+              tells = refused ∙ reports_first _ _ more (sym refused ∙ told) ∙ sym begins ∙ far.says;
+              counted = λ e. absurd (omega arith);
+              kept = kept;
+            }
 
-        pub goes_first : CanWalk rs bs₁ inner r.first (left - 1)
-        goes_first = goes types rs bs bs d l n left (left - 1) _ _ passes_own bs₁ first _ _ enters₁.enters (first_le rs n) there same₁
+        passes : {next : ℕ} → next ≡ next_of rs child → (next ≡ 0 → more ≡ none) → p < 65536 → WalkedSoFar types rs b b₃ l n left p next more
+        passes follows nothing e = record {
+          kept = kept;
+          says = reports_next more _ more (passed_number p (omega arith) ∙ told) refl ∙ sym begins ∙ far.says;
+          nothing = nothing;
+          falls = omega (arith, far.falls, walk.counted e);
+          counted = omega (arith, left_after e, ap (chain_size rs) follows);
+        }
 
-        module _ (bs₂ : List ℕ) (p : ℕ) (walk : Walks types rs bs₁ bs₂ inner m r.first (left - 1) p) where
-          pub stops_first : 65536 ≤ p → Walks types rs bs bs₂ d l n left p
+-- The walk of record n, which is r, of this kind; v is its own fault. That stops the walk, or there is none.
+module _ (types : Table) (rs : List Record) (b : Binders) (l n left : ℕ) (can : CanWalk rs b n left) (r : Read) (own : IsRecord rs n r)
+    (kind : Kind) (named : kind_meant kind ≡ kind_of r.kind) (v : Result Unit Reason) (judged : JudgesRead types rs (binders_of b) l kind r v) where
+  by_own : judged_at types rs (binders_of b) l n then from_first types rs (binders_of b) l n ≡ walked (length rs) types rs (binders_of b) l n
+  by_own = sym (walked_by types rs (binders_of b) l n can.here.real can.here.within)
+
+  own_told : refused_at n v ≡ judged_at types rs (binders_of b) l n
+  own_told = judged.tells n can.here own named
+
+  pub stops_own : (reason : Reason) → v ≡ Err reason → (q : ℕ) → Packs reason n q → Walks types rs b b l n left q
+  stops_own reason e q p = record {
+    tells = p.holds ∙ reports_first _ _ _ (rw e at own_told) ∙ by_own;
+    counted = λ e. absurd (omega (arith, p.refused));
+    kept = record { are = refl; room = refl };
+  }
+
+  abbrev f : Fields
+  f = (record_meant r).fields
+
+  its_kind : kind_meant kind ≡ kind_no rs n
+  its_kind = named ∙ ap (λ x. kind_of x.kind) own.is
+
+  its_fields : f ≡ fields_no rs n
+  its_fields = ap (λ x. x.fields) own.is
+
+  its_first : r.first ≡ first_of rs n
+  its_first = first_link rs n r own can.here
+
+  module _ (x : Unit) (well : v ≡ Ok x) where
+    passes_own : WalkedSoFar types rs b b l n left (left - 1) r.first (from_first types rs (binders_of b) l n)
+    passes_own = record {
+      kept = record { are = refl; room = refl };
+      says = reports_next _ _ _ (rw well at own_told) refl ∙ by_own;
+      nothing = λ e. first_nothing types rs (binders_of b) l n (sym its_first ∙ e);
+      falls = omega (arith, one_left rs b n left can);
+      counted = omega (arith, one_left rs b n left can, record_then_chain rs can.chained n can.here.real can.here.within, ap (chain_size rs) its_first);
+    }
+
+    pub ends_leaf : r.first ≡ 0 → Walks types rs b b l n left (left - 1)
+    ends_leaf e = ends can passes_own e
+
+    -- The first child's tree.
+    module _ (there : r.first ≡ 0 → ⊥) (b₁ : Binders) (pushed : PushesFirst kind l r.a b b₁) where
+      over_its_first : BindsFew l (over_first (kind_meant kind) f) b b₁
+      over_its_first = record { pushed = pushed.binds f refl; few = first_few f (kind_meant kind) }
+
+      first_within : r.first ≤ length rs
+      first_within = rw its_first (first_le rs n)
+
+      pub goes_first : CanWalk rs b₁ r.first (left - 1)
+      goes_first = goes can passes_own there first_within over_its_first
+
+      module _ (m : ℕ) (b₂ : Binders) (p : ℕ) (walk : Walks types rs b₁ b₂ m r.first (left - 1) p) (depth : ℕ) (deep : depth ≡ length (binders_of b)) where
+        pub bound_first : depth ≤ length (binders_of b₂)
+        bound_first = bound can passes_own there first_within over_its_first walk deep
+
+        module _ (at : m ≡ first_level (kind_meant kind) l) where
+          begins_first : from_first types rs (binders_of b) l n
+              ≡ walked (length rs) types rs (under l (over_first (kind_meant kind) f) (binders_of b)) m r.first then from_second types rs (binders_of b) l n
           unfolding from_first
-          stops_first = stops types rs bs bs d l n left (left - 1) _ _ passes_own bs₁ first _ _ enters₁.enters (first_le rs n) there bs₂ p walk _ refl
+          begins_first = rw (at, its_fields, its_kind, its_first) refl
 
-          -- What follows the first child is the second.
-          module _ (low : p < 65536) (same₂ : length bs₂ ≡ length bs₁) (next : ℕ) (follows : Follows rs r.first next) where
-            passes_first : WalkedSoFar types rs bs bs₂ d l n left p (second_of rs n) (from_second types rs (stack bs d) l n)
-            unfolding from_first
-            passes_first =
-                passes types rs bs bs d l n left (left - 1) _ _ passes_own bs₁ first _ _ enters₁.enters (first_le rs n) there bs₂ p walk _ refl
-                (second_nothing types rs (stack bs d) l n) low same₁ same₂
+          module _ (b₃ : Binders) (cut : Rebinds b₂ b₃ (outermost depth (binders_of b₂))) where
+            kept₃ : Rebinds b b₃ (binders_of b)
+            kept₃ = left_again can passes_own there first_within over_its_first walk deep cut
 
-            pub falls_first : p < left
-            falls_first = passes_first.falls
+            pub stops_first : 65536 ≤ p → Walks types rs b b₃ l n left p
+            stops_first h = stops can passes_own there first_within over_its_first walk _ begins_first kept₃ h
 
-            pub ends_first : next ≡ 0 → Walks types rs bs bs₂ d l n left p
-            ends_first e = ends types rs bs bs₂ d l n left p _ _ passes_first (sym (second_link rs n r own can.here next follows) ∙ e)
+            -- What follows the first child is the second.
+            module _ (low : p < 65536) (next : ℕ) (follows : Follows rs r.first next) where
+              its_second : next ≡ second_of rs n
+              its_second = second_link rs n r own can.here next follows
 
-            pub room_second : d + 2 ≤ length bs₂
-            room_second = (can_enter rs bs₂ d n left passes_first.can).room
+              passes_first : WalkedSoFar types rs b b₃ l n left p next (from_second types rs (binders_of b) l n)
+              passes_first = passes can passes_own there first_within over_its_first walk _ begins_first kept₃ follows.is (λ e. second_nothing types rs (binders_of b) l n (sym its_second ∙ e)) low
 
-            -- The second child's tree.
-            module _ (there₂ : next ≡ 0 → ⊥) (bs₃ : List ℕ) (within : ℕ) (pushed₂ : PushesSecond kind r.a r.b bs₂ bs₃ d within) (same₃ : length bs₃ ≡ length bs₂) where
-              abbrev second : Child
-              second = record { n = next; level = l; depth = within }
+              pub ends_first : next ≡ 0 → Walks types rs b b₃ l n left p
+              ends_first e = ends can passes_first e
 
-              enters₂ : EntersSecond rs bs₂ bs₃ d l n second
-              enters₂ = enters_second rs bs₂ bs₃ d l n within r own can.here kind named next pushed₂ follows
+              pub room_second : length (binders_of b₃) + 2 ≤ capacity b₃
+              room_second = omega (arith, room_first rs b n left can, ap length kept₃.are, kept₃.room)
 
-              pub goes_second : CanWalk rs bs₃ within next p
-              goes_second = goes types rs bs bs₂ d l n left p _ _ passes_first bs₃ second _ _ enters₂.enters (next_le rs (first_of rs n)) there₂ same₃
+              -- The second child's tree, which can be walked whatever kind bound variables over it.
+              module _ (there₂ : next ≡ 0 → ⊥) (b₄ : Binders) where
+                second_within : next ≤ length rs
+                second_within = rw its_second (next_le rs (first_of rs n))
 
-              module _ (bs₄ : List ℕ) (p₂ : ℕ) (walk₂ : Walks types rs bs₃ bs₄ within l next p p₂) where
-                pub stops_second : 65536 ≤ p₂ → Walks types rs bs bs₄ d l n left p₂
-                unfolding from_second
-                stops_second =
-                    stops types rs bs bs₂ d l n left p _ _ passes_first bs₃ second _ _ (rw passes_first.kept at enters₂.enters) (next_le rs (first_of rs n)) there₂ bs₄ p₂ walk₂ _ refl
+                module _ (k₂ : Kind) (x₂ y₂ : ℕ) (some₂ : PushesSecond k₂ x₂ y₂ b₃ b₄) where
+                  abbrev g : Fields
+                  g = record { type = 0; a = x₂; b = y₂; value = 0 }
 
-                -- The third child's tree, which stands where the record itself does.
-                module _ (low₂ : p₂ < 65536) (same₄ : length bs₄ ≡ length bs₃) (e : ℕ) (last : Follows rs next e) where
-                  passes_second : WalkedSoFar types rs bs bs₄ d l n left p₂ (third_of rs n) (from_third types rs (stack bs d) l n)
+                  over_second_child : BindsFew 0 (over_second (kind_meant k₂) g) b₃ b₄
+                  over_second_child = record { pushed = some₂.binds g refl refl; few = second_few g (kind_meant k₂) }
+
+                  pub goes_second : CanWalk rs b₄ next p
+                  goes_second = goes can passes_first there₂ second_within over_second_child
+
+                  pub bound_second : (b₅ : Binders) (p₂ : ℕ) → Walks types rs b₄ b₅ l next p p₂ → depth ≤ length (binders_of b₅)
+                  bound_second b₅ p₂ walk₂ = bound can passes_first there₂ second_within over_second_child walk₂ deep
+
+                module _ (pushed₂ : PushesSecond kind r.a r.b b₃ b₄) (b₅ : Binders) (p₂ : ℕ) (walk₂ : Walks types rs b₄ b₅ l next p p₂) where
+                  over_its_second : BindsFew 0 (over_second (kind_meant kind) f) b₃ b₄
+                  over_its_second = record { pushed = pushed₂.binds f refl refl; few = second_few f (kind_meant kind) }
+
+                  begins_second : from_second types rs (binders_of b) l n
+                      ≡ walked (length rs) types rs (under 0 (over_second (kind_meant kind) f) (binders_of b)) l next then from_third types rs (binders_of b) l n
                   unfolding from_second
-                  passes_second =
-                      passes types rs bs bs₂ d l n left p _ _ passes_first bs₃ second _ _ (rw passes_first.kept at enters₂.enters) (next_le rs (first_of rs n)) there₂ bs₄ p₂ walk₂ _ refl
-                      (third_nothing types rs (stack bs d) l n) low₂ same₃ same₄
+                  begins_second = rw (its_fields, its_kind, its_second) refl
 
-                  third_is : e ≡ third_of rs n
-                  third_is = (its_third rs n r own can.here next e follows last).is
+                  module _ (b₆ : Binders) (cut₂ : Rebinds b₅ b₆ (outermost depth (binders_of b₅))) where
+                    kept₆ : Rebinds b b₆ (binders_of b)
+                    kept₆ = left_again can passes_first there₂ second_within over_its_second walk₂ deep cut₂
 
-                  pub falls_second : p₂ < left
-                  falls_second = passes_second.falls
+                    pub stops_second : 65536 ≤ p₂ → Walks types rs b b₆ l n left p₂
+                    stops_second h = stops can passes_first there₂ second_within over_its_second walk₂ _ begins_second kept₆ h
 
-                  pub ends_second : e ≡ 0 → Walks types rs bs bs₄ d l n left p₂
-                  ends_second z = ends types rs bs bs₄ d l n left p₂ _ _ passes_second (sym third_is ∙ z)
+                    -- The third child's tree, over which nothing is bound.
+                    module _ (low₂ : p₂ < 65536) (e : ℕ) (last : Follows rs next e) where
+                      its_third : e ≡ third_of rs n
+                      its_third = third_link rs n r own can.here next e follows last
 
-                  stands : Enters (stack bs₄ d) l (third_of rs n) bs₄ bs₄ d (record { n = e; level = l; depth = d })
-                  stands = record { number = third_is; level = refl; over = refl; kept = refl; above = omega arith; most = omega arith }
+                      passes_second : WalkedSoFar types rs b b₆ l n left p₂ e (from_third types rs (binders_of b) l n)
+                      passes_second =
+                          passes can passes_first there₂ second_within over_its_second walk₂ _ begins_second kept₆ last.is (λ z. third_nothing types rs (binders_of b) l n (sym its_third ∙ z)) low₂
 
-                  module _ (there₃ : e ≡ 0 → ⊥) where
-                    pub goes_third : CanWalk rs bs₄ d e p₂
-                    goes_third = goes types rs bs bs₄ d l n left p₂ _ _ passes_second bs₄ _ _ _ stands (next_le rs (second_of rs n)) there₃ refl
+                      pub ends_second : e ≡ 0 → Walks types rs b b₆ l n left p₂
+                      ends_second z = ends can passes_second z
 
-                    pub ends_third : (bs₅ : List ℕ) (p₃ : ℕ) → Walks types rs bs₄ bs₅ d l e p₂ p₃ → Walks types rs bs bs₅ d l n left p₃
-                    unfolding from_third
-                    ends_third bs₅ p₃ walk₃ = record {
-                      tells = rw (third_is, passes_second.kept) at walk₃.tells ∙ passes_second.says;
-                      counted = λ low₃. omega (
-                        arith,
-                        left_after types rs bs bs₄ d l n left p₂ _ _ passes_second bs₄ _ _ _ stands (next_le rs (second_of rs n)) there₃ bs₅ p₃ walk₃ low₃,
-                        none_after_third rs can.chained n can.here.real can.here.within,
-                      );
-                      kept = walk₃.kept ∙ passes_second.kept;
-                    }
+                      module _ (there₃ : e ≡ 0 → ⊥) where
+                        over_its_third : BindsFew 0 [] b₆ b₆
+                        over_its_third = record { pushed = record { are = refl; room = refl }; few = omega arith }
+
+                        third_within : e ≤ length rs
+                        third_within = rw its_third (next_le rs (second_of rs n))
+
+                        pub goes_third : CanWalk rs b₆ e p₂
+                        goes_third = goes can passes_second there₃ third_within over_its_third
+
+                        pub ends_third : (b₇ : Binders) (p₃ : ℕ) → Walks types rs b₆ b₇ l e p₂ p₃ → Walks types rs b b₇ l n left p₃
+                        unfolding from_third
+                        ends_third b₇ p₃ walk₃ = record {
+                          tells = rw (its_third, kept₆.are) at walk₃.tells ∙ passes_second.says;
+                          counted = λ low₃. omega (
+                            arith,
+                            left_after can passes_second there₃ third_within over_its_third walk₃ low₃,
+                            ap (λ m. chain_size rs (next_of rs m)) its_third,
+                            none_after_third rs can.chained n can.here.real can.here.within,
+                          );
+                          kept = record { are = walk₃.kept.are ∙ kept₆.are; room = walk₃.kept.room ∙ kept₆.room };
+                        }
 
 -- The walk from the root: its tree has all the records.
-pub root_asked : (rs : List Record) (bs : List ℕ) → MakeTree rs → 2 * length rs ≤ length bs → CanWalk rs bs 0 1 (length rs)
-root_asked rs bs h room =
+pub root_asked : (rs : List Record) (b : Binders) → MakeTree rs → binders_of b ≡ [] → 2 * length rs ≤ capacity b → CanWalk rs b 1 (length rs)
+root_asked rs b h nothing room =
     let whole = whole_size rs (holds_lowest _ bad_children 1 (length rs) h.chained) (holds_lowest _ bad_link 1 (length rs) h.linked) h.real in
     record {
       here = record { linked = no_bad_link rs h.linked; real = omega arith; within = h.real };
       chained = h.chained;
       enough = omega (arith, whole);
       most = h.most;
-      room = omega arith;
+      room = omega (arith, ap length nothing);
     }
 
-pub root_told : (types : Table) (rs : List Record) (bs bs' : List ℕ) (left p : ℕ) (v : Result Unit Reported) → Walks types rs bs bs' 0 0 1 left p → Unpacks p v
-    → Reports v (walked (length rs) types rs [] 0 1)
-unfolding stack
-root_told types rs bs bs' left p v walk u = unpacked p v _ u (walked_of_judging (length rs) types rs [] 0 1) walk.tells
+pub root_of_judging : (types : Table) (rs : List Record) (b b' : Binders) (left q : ℕ) → Walks types rs b b' 0 1 left q → OfJudging (refusal_in q)
+root_of_judging types rs b b' left q walk = rw walk.tells (walked_of_judging (length rs) types rs (binders_of b) 0 1)

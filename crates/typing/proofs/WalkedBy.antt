@@ -3,20 +3,22 @@ use Prim.Native.Nat.{ℕ, zero, suc, ◌≤◌}
 use native.Mathlib.Omega.{arith}
 use mathlib.Core.Path.{◌≡◌, refl, sym}
 use mathlib.Core.List.{List}
-use mathlib.Core.Option.{Option, none}
+use mathlib.Core.Option.{Option, none, some}
 use lib.ListN.{length}
+use Rattle.rules.specs.Kinds.{Kind}
+use Rattle.rules.specs.Terms.{Fields}
 use Rattle.rules.specs.Types.{Table}
+use Rattle.rules.specs.Conditions.{Rule, holds}
 use Rattle.rules.specs.Binders.{over_first, over_second}
-use Rattle.rules.specs.Typing.{Env, under, first_level}
+use Rattle.rules.specs.Typing.{Env, under, first_level, bound, placed, typed}
 use Rattle.rules.specs.Format.{Record}
 use Rattle.rules.specs.Links.{first_of, next_of}
-use Rattle.rules.specs.Check.{walked}
-use Rattle.rules.specs.Refusals.{Refusal, ◌then◌}
+use Rattle.rules.specs.Check.{judged, walked}
+use Rattle.rules.specs.Refusals.{Refusal, bad_index, bad_level, bad_type, unless, ◌then◌}
+use Rattle.rules.proofs.General.{picked}
 use Rattle.rules.proofs.Generations.{all_generations}
-use Rattle.judging.proofs.Naming.{OfJudging, then_of_judging, judged_of_judging}
-use Rattle.typing.specs.Reading.{second_of, third_of}
-use Rattle.typing.specs.Entering.{kind_no, fields_no}
-use Rattle.typing.specs.Walking.{judged_at}
+use Rattle.typing.specs.Reading.{second_of, third_of, kind_no, fields_no}
+use Rattle.typing.specs.Walking.{OfJudging, judged_at}
 
 module _ (types : Table) (rs : List Record) (Γ : Env) (l : ℕ) where
   -- The checks of record n from the tree of its third child on, of its second, and of its first.
@@ -63,6 +65,21 @@ module _ (types : Table) (rs : List Record) (Γ : Env) (l n : ℕ) where
       (second_nothing (next_nothing rs (first_of rs n) e))
 
 -- Whatever is refused is refused by a number of judging.
+then_of_judging : (o p : Option Refusal) → OfJudging o → OfJudging p → OfJudging (o then p)
+unfolding ◌then◌
+then_of_judging none p h k = k
+then_of_judging (some r) p h k = h
+
+unless_of_judging : (rule : Rule) (number place : ℕ) → bad_index ≤ number → number ≤ bad_type → OfJudging (unless rule number place)
+unfolding unless
+unless_of_judging rule number place h k = picked OfJudging (holds rule) (λ _. tt) (λ _. (h, k))
+
+judged_of_judging : (types : Table) (Γ : Env) (l n : ℕ) (k : Kind) (f : Fields) (x y z : ℕ) → OfJudging (judged types Γ l n k f x y z)
+unfolding judged
+judged_of_judging types Γ l n k f x y z =
+    then_of_judging _ _ (unless_of_judging (bound Γ k f) bad_index n (omega arith) (omega arith))
+    (then_of_judging _ _ (unless_of_judging (placed Γ l k f) bad_level n (omega arith) (omega arith)) (unless_of_judging (typed types Γ k f x y z) bad_type n (omega arith) (omega arith)))
+
 pub walked_of_judging : (left : ℕ) (types : Table) (rs : List Record) (Γ : Env) (l n : ℕ) → OfJudging (walked left types rs Γ l n)
 unfolding walked
 walked_of_judging zero types rs Γ l n = tt

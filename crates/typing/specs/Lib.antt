@@ -1,5 +1,4 @@
 -- What the contracts of the walk cite.
 pub mod Reading
 pub mod Pushing
-pub mod Entering
 pub mod Walking

@@ -1,6 +1,8 @@
 -- What is read of a record by its number, in which 0 is no record, and of its children.
 use Rattle.std.specs.Prelude.{ℕ, ◌≤◌, ◌≡◌, List, length}
-use Rattle.rules.specs.Format.{Record}
+use Rattle.rules.specs.Kinds.{Kind, kind_of}
+use Rattle.rules.specs.Terms.{Fields}
+use Rattle.rules.specs.Format.{Record, record_no}
 use Rattle.rules.specs.Links.{NoBadLink, first_of, next_of}
 use Rattle.rules.specs.Check.{type_no}
 
@@ -21,5 +23,9 @@ second_of rs n = next_of rs (first_of rs n)
 abbrev pub third_of : List Record → ℕ → ℕ
 third_of rs n = next_of rs (second_of rs n)
 
-pub record IsThird (rs : List Record) (n m : ℕ) : Type 0 where
-  pub is : m ≡ third_of rs n
+-- The kind of record n and its fields.
+abbrev pub kind_no : List Record → ℕ → Kind
+kind_no rs n = kind_of (record_no rs n).kind
+
+abbrev pub fields_no : List Record → ℕ → Fields
+fields_no rs n = (record_no rs n).fields
