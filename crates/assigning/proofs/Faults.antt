@@ -1,18 +1,17 @@
 -- The number of what is wanted, and the fault of the record that has it.
-use Prim.Native.Nat.{ℕ, suc, ◌*◌, ◌≤◌, ◌<◌}
+use Prim.Native.Nat.{ℕ, suc, ◌≤◌, ◌<◌}
 use native.Mathlib.Omega.{arith}
 use mathlib.Core.List.{List}
-use mathlib.Core.Option.{Option}
-use mathlib.Core.Path.{◌≡◌, refl, ap, sym, ◌∙◌}
-use lib.ListN.{length, take}
+use mathlib.Core.Path.{◌≡◌, refl, ap, ◌∙◌}
+use lib.ListN.{length}
 use lib.Seq.{length-take-le}
 use borrow.Author.Tests.{lt-ltb, le-ltb}
+use Rattle.std.specs.Prelude.{Result, Ok, Err, slice_index}
 use Rattle.rules.specs.Kinds.{kind_of}
 use Rattle.rules.specs.Types.{Table}
 use Rattle.rules.specs.Typing.{Env}
 use Rattle.rules.specs.Format.{most_types}
 use Rattle.rules.specs.Refusals.{unless}
-use Rattle.rules.specs.Refusals.{Refusal as MeantRefusal}
 use Rattle.rules.specs.Check.{judged}
 use Rattle.kinds.specs.declared.names.Kind.{Kind}
 use Rattle.kinds.specs.Named.{kind_meant}
@@ -20,102 +19,86 @@ use Rattle.records.specs.declared.Entry.{Entry}
 use Rattle.records.specs.declared.Record.{Record}
 use Rattle.records.specs.Meant.{entry_meant}
 use Rattle.records.specs.View.{entries_in}
-use Rattle.records.proofs.Entries.{entries_length, entries_front}
-use Rattle.std.specs.Prelude.{Result, Ok, Err}
 use Rattle.refusals.specs.declared.reasons.Reason.{Reason}
 use Rattle.refusals.specs.declared.reasons.Reason.TheVariants.{TableFull}
 use Rattle.refusals.proofs.Reporting.{reports_first, reports_next}
-use Rattle.judging.specs.Stack.{stack}
-use Rattle.judging.specs.Tests.{fields_meant, refusal_at, Judges, Names}
-use Rattle.judging.proofs.Naming.{OfJudging, judged_of_judging, nothing_named, something_named}
-use Rattle.tables.specs.declared.Held.{Held}
-use Rattle.tables.specs.Having.{CanGrow, CanHave, Has}
+use Rattle.judging.specs.declared.Binders.{Binders}
+use Rattle.judging.specs.Stack.{binders_of}
+use Rattle.judging.specs.Tests.{fields_meant, refused_at, Judges}
+use Rattle.tables.specs.declared.Table.{Table as TypeTable}
+use Rattle.tables.specs.Having.{buffer_of, entries_of, HasBytes, AreEntries, CanGrow, CanHave, Has}
 use Rattle.assigning.specs.declared.Candidate.{Candidate}
 use Rattle.assigning.specs.declared.Candidate.TheVariants.{Known, Made}
-use Rattle.assigning.specs.Assigning.{wanted_meant, wanted_for, Wants, MayFollow, CanHold, HasWanted, HasCandidate, refused_at, JudgesOwn, JudgesWhole, fault_for, Assigns}
+use Rattle.assigning.specs.Assigning.{wanted_meant, wanted_for, Wants, MayFollow, CanHold, HasWanted, HasCandidate, JudgesOwn, JudgesWhole, fault_for, CanAssign, Assigns}
 
 -- An entry that is made may be had.
-pub can_have : (es : Table) (types : ℕ) (w : Candidate) (e : Entry) → CanHold es types w → w ≡ Made e → CanHave es types (entry_meant e)
+pub can_have : (t : TypeTable) (w : Candidate) (e : Entry) → CanHold t w → w ≡ Made e → CanHave t (entry_meant e)
 unfolding wanted_meant MayFollow
-can_have es types w e can is = record { table = can.table; parts = rw is at can.follows }
+can_have t w e can is = record { table = can.table; parts = rw is at can.follows }
 
 -- A number that is known, and that of an entry that is made.
-pub has_known : (es : Table) (types n : ℕ) → HasCandidate es es types (Known n) (record { number = n; types = types })
+pub has_known : (t : TypeTable) (w : Candidate) (n : ℕ) → w ≡ Known n → HasCandidate t t w n
 unfolding wanted_meant
-has_known es types n = record { does = record { table = refl; number = refl; fits = omega arith; room = refl } }
+has_known t w n is = rw is (record { does = record { same = refl; table = refl; number = refl; fits = omega arith; room = refl } })
 
-pub has_made : (es es' : Table) (types : ℕ) (e : Entry) (r : Held) → Has es es' types (entry_meant e) r → HasCandidate es es' types (Made e) r
+pub has_made : (t t' : TypeTable) (w : Candidate) (e : Entry) (n : ℕ) → w ≡ Made e → Has t t' (entry_meant e) n → HasCandidate t t' w n
 unfolding wanted_meant
-has_made es es' types e r h = record { does = record { table = h.table; number = h.number; fits = h.fits; room = h.room } }
+has_made t t' w e n is h = rw is (record { does = record { same = h.same; table = h.table; number = h.number; fits = h.fits; room = h.room } })
 
--- The record's own fault, from the number that is judged.
-named_fault : (q n : ℕ) (a : Result Unit Reason) (o : Option MeantRefusal) → OfJudging o → refusal_at q n ≡ o → Names q a → refused_at n a ≡ o
-named_fault q n (Ok x) o j t e = nothing_named q n o t e
-named_fault q n (Err reason) o j t e = something_named q n o reason j t e
-
-pub judges_own : (types : Table) (Γ : Env) (l : ℕ) (kind : Kind) (r : Record) (x y z q : ℕ) (a : Result Unit Reason) → kind_meant kind ≡ kind_of r.kind
-    → Judges types Γ l kind r x y z q → Names q a → JudgesOwn types Γ l r x y z a
-judges_own types Γ l kind r x y z q a e j names = record {
-  is = λ n.
-      named_fault q n a _ (judged_of_judging types Γ l n (kind_of r.kind) (fields_meant r) x y z) (j.tells n ∙ ap (λ k. judged types Γ l n k (fields_meant r) x y z) e) names;
+-- The record's own fault, by its kind.
+pub judges_own : (types : Table) (Γ : Env) (l : ℕ) (kind : Kind) (r : Record) (children : List ℕ) (q : Result Unit Reason) → kind_meant kind ≡ kind_of r.kind
+    → Judges types Γ l kind r children q → JudgesOwn types Γ l r children q
+judges_own types Γ l kind r children q e j = record {
+  is = λ n. j.tells n ∙ ap (λ k. judged types Γ l n k (fields_meant r) (slice_index children 0) (slice_index children 1) (slice_index children 2)) e;
 }
 
 -- The record's own fault, then 14.
-module _ (s : List ℕ) (Γ : Env) (l : ℕ) (r : Record) (x y z : ℕ) where
-  pub own_stays : (reason : Reason) → JudgesOwn (entries_in s) Γ l r x y z (Err reason) → JudgesWhole (entries_in s) Γ l r x y z (Err reason)
-  own_stays reason own = record { is = λ n. reports_first _ _ _ (own.is n) }
+module _ (t : TypeTable) (s : List ℕ) (a : AreEntries t s) (Γ : Env) (l : ℕ) (r : Record) (children : List ℕ) where
+  pub own_stays : (reason : Reason) → JudgesOwn (entries_in s) Γ l r children (Err reason) → JudgesWhole (entries_of t) Γ l r children (Err reason)
+  own_stays reason own = record { is = λ n. reports_first _ _ _ ((rw a.are at own).is n) }
 
-  -- The bytes are `count` entries.
-  module _ (count : ℕ) (long : 6 * count ≡ length s) (own : JudgesOwn (entries_in s) Γ l r x y z (Ok tt)) where
-    pub full_fault : most_types < count → JudgesWhole (entries_in s) Γ l r x y z (Err TableFull)
+  module _ (has : HasBytes t) (own : JudgesOwn (entries_in s) Γ l r children (Ok tt)) where
+    count : length (entries_of t) ≡ t.types
+    count = length-take-le t.types (buffer_of t) has.room
+
+    pub full_fault : most_types < t.types → JudgesWhole (entries_of t) Γ l r children (Err TableFull)
     unfolding unless
-    full_fault h = record { is = λ n. reports_next _ _ _ (own.is n) (rw (le-ltb (length (entries_in s)) (suc most_types) (omega (arith, entries_length s))) refl) }
+    full_fault h = record { is = λ n. reports_next _ _ _ ((rw a.are at own).is n) (rw (le-ltb (length (entries_of t)) (suc most_types) (omega (arith, count))) refl) }
 
-    pub no_fault : count ≤ most_types → JudgesWhole (entries_in s) Γ l r x y z (Ok tt)
+    pub no_fault : t.types ≤ most_types → JudgesWhole (entries_of t) Γ l r children (Ok tt)
     unfolding unless
-    no_fault h = record { is = λ n. reports_next _ _ _ (own.is n) (rw (lt-ltb (length (entries_in s)) (suc most_types) (omega (arith, entries_length s))) refl) }
+    no_fault h = record { is = λ n. reports_next _ _ _ ((rw a.are at own).is n) (rw (lt-ltb (length (entries_of t)) (suc most_types) (omega (arith, count))) refl) }
 
--- What is wanted, given to the record; the parts of the buffer that are lent are the first entries.
-module _ (s : List ℕ) (types : ℕ) (can : CanGrow (entries_in s) types) where
-  -- So many bytes of the buffer are so many entries.
-  pub front_fits : 6 * types ≤ length s
-  front_fits = omega (arith, can.room, entries_length s)
+-- A table that can grow has its entries' bytes, and so has the one that has what is wanted.
+pub grows_in_bytes : (t : TypeTable) → CanGrow t → HasBytes t
+grows_in_bytes t can = record { room = omega (arith, can.room) }
 
-  pub front_long : 6 * types ≡ length (take (6 * types) s)
-  front_long = sym (length-take-le (6 * types) s front_fits)
+pub held_bytes : (t t' : TypeTable) (w : Candidate) (n : ℕ) → CanGrow t → HasCandidate t t' w n → HasBytes t'
+held_bytes t t' w n can has = record { room = omega (arith, can.room, has.does.fits, has.does.room) }
 
-  module _ (bs : List ℕ) (d : ℕ) (o : Record) (x y : ℕ) (w : Candidate) (wants : Wants (entries_in (take (6 * types) s)) (stack bs d) o x y w) where
-    wanted_is : wanted_meant w ≡ wanted_for (take types (entries_in s)) (stack bs d) o x y
-    wanted_is = wants.is ∙ ap (λ t. wanted_for t (stack bs d) o x y) (entries_front s types front_fits)
+-- What is wanted, given to the record.
+module _ (t : TypeTable) (s : List ℕ) (a : AreEntries t s) (b : Binders) (o : Record) (children : List ℕ) (w : Candidate) (wants : Wants (entries_in s) (binders_of b) o children w) where
+  wanted_is : wanted_meant w ≡ wanted_for (entries_of t) (binders_of b) o children
+  wanted_is = rw a.are at wants.is
 
-    pub can_hold : MayFollow types (wanted_for (take types (entries_in s)) (stack bs d) o x y) → CanHold (entries_in s) types w
-    can_hold f = record { table = can; follows = rw wanted_is f }
-
-module _ (s s' : List ℕ) (types : ℕ) (w : Candidate) (r : Held) (can : CanGrow (entries_in s) types) (has : HasCandidate (entries_in s) (entries_in s') types w r) where
-  pub held_fits : 6 * r.types ≤ length s'
-  held_fits = omega (arith, can.room, has.does.fits, has.does.room, entries_length s')
-
-  pub held_long : 6 * r.types ≡ length (take (6 * r.types) s')
-  held_long = sym (length-take-le (6 * r.types) s' held_fits)
+  pub can_hold : CanAssign t b o children → CanHold t w
+  can_hold can = record { table = can.table; follows = rw wanted_is can.follows }
 
   -- The fault with the type that is held is the one that the definition has.
-  module _ (bs : List ℕ) (d l n : ℕ) (o : Record) (x y z : ℕ) (wants : Wants (entries_in (take (6 * types) s)) (stack bs d) o x y w) where
-    abbrev A : Table
-    A = take types (entries_in s)
-
-    held_so : HasWanted (entries_in s) (entries_in s') types (wanted_for A (stack bs d) o x y) r.number r.types
-    held_so = rw (wanted_is s types can bs d o x y w wants) at has.does
+  module _ (t' : TypeTable) (ty : ℕ) (has : HasCandidate t t' w ty) (l n : ℕ) where
+    held_so : HasWanted t t' (wanted_for (entries_of t) (binders_of b) o children) ty
+    held_so = rw wanted_is at has.does
 
     abbrev given : Record
-    given = record { kind = o.kind; ty = r.number; a = o.a; b = o.b; first = o.first; next = o.next; value = o.value }
+    given = record { kind = o.kind; ty = ty; a = o.a; b = o.b; first = o.first; next = o.next; value = o.value }
 
-    fault_is : (q : Result Unit Reason) → JudgesWhole (entries_in (take (6 * r.types) s')) (stack bs d) l given x y z q → refused_at n q ≡ fault_for A (stack bs d) l n o x y z
+    fault_is : (q : Result Unit Reason) → JudgesWhole (entries_of t') (binders_of b) l given children q → refused_at n q ≡ fault_for (entries_of t) (binders_of b) l n o children
     unfolding fault_for
-    fault_is q j = rw (← held_so.table, ← held_so.number, ← entries_front s' r.types held_fits) (j.is n)
+    fault_is q j = rw (← held_so.table, ← held_so.number) (j.is n)
 
-    pub assigns : JudgesWhole (entries_in (take (6 * r.types) s')) (stack bs d) l given x y z (Ok tt) → Assigns (entries_in s) (entries_in s') types (stack bs d) l n o x y z (Ok r)
+    pub assigns : JudgesWhole (entries_of t') (binders_of b) l given children (Ok tt) → Assigns t t' (binders_of b) l n o children (Ok ty)
     assigns j = record { reports = fault_is (Ok tt) j; held = held_so }
 
-    pub assigns_none : (reason : Reason) → JudgesWhole (entries_in (take (6 * r.types) s')) (stack bs d) l given x y z (Err reason)
-        → Assigns (entries_in s) (entries_in s') types (stack bs d) l n o x y z (Err (record { reason = reason; place = n }))
-    assigns_none reason j = record { reports = fault_is (Err reason) j; held = record { number = r.number; count = r.types; held = held_so } }
+    pub assigns_none : (reason : Reason) → JudgesWhole (entries_of t') (binders_of b) l given children (Err reason)
+        → Assigns t t' (binders_of b) l n o children (Err (record { reason = reason; place = n }))
+    assigns_none reason j = record { reports = fault_is (Err reason) j; held = record { number = ty; held = held_so } }

@@ -2,16 +2,18 @@
 // judged as check judges a written one. A type that the table lacks is appended to it.
 #![tactic(auto)]
 
-ghost use Rattle.std.specs.Prelude.{◌*◌, ◌≤◌, ◌≡◌, length};
+ghost use Rattle.std.specs.Prelude.{◌≤◌, length};
 ghost use Rattle.records.specs.View.{entries_in};
-ghost use Rattle.judging.specs.Stack.{stack};
+ghost use Rattle.judging.specs.Stack.{binders_of, capacity};
 ghost use Rattle.judging.specs.Tests.{Judges};
+ghost use Rattle.tables.specs.Having.{entries_of, HasBytes};
 ghost use Rattle.assigning.specs.Assigning.{Wants, CanHold, HasCandidate, JudgesOwn, JudgesWhole, CanAssign, Assigns};
 
+use judging::Binders;
 use kinds::Kind;
 use records::{Entry, Record};
 use refusals::{Reason, Refusal};
-use tables::Held;
+use tables::Table;
 
 // The type that a record must have, if it can have one: a number that is known, or the number of an entry that is made. An enum of its own, since
 // neither is an error.
@@ -21,15 +23,16 @@ pub enum Candidate {
     Made(Entry),
 }
 
-// What is wanted for record r under the binders below the depth, whose first two children have the types x and y.
-fn wanted(table: &[u8], binders: &[u32], depth: usize, r: Record, x: u16, y: u16) -> Candidate
-    requires { depth ≤ length binders.now }
-    ensures { Wants (entries_in table.now) (stack binders.now depth) r x y result }
+// What is wanted for record r under the binders, whose children have these types.
+fn wanted(table: &[u8], binders: &Binders<'_>, r: Record, children: [u16; 3]) -> Candidate
+    requires { length (binders_of binders.now) ≤ capacity binders.now }
+    ensures { Wants (entries_in table.now) (binders_of binders.now) r children result }
 {
+    let [x, y, _] = children;
     match Kind::of(r.kind) {
         Kind::Number => Candidate::Made(Entry::nat()),
         Kind::Variable => {
-            let b = judging::binder_at(binders, depth, r.a);
+            let b = binders.at(r.a);
             Candidate::Known(b.ty)
         }
         Kind::Function => Candidate::Made(Entry::function(r.a, x)),
@@ -46,124 +49,96 @@ fn wanted(table: &[u8], binders: &[u32], depth: usize, r: Record, x: u16, y: u16
     }
 }
 
-// The number of the wanted type, and how many entries the table has that holds it.
-fn hold(table: &mut [u8], types: u16, w: Candidate) -> Held
-    requires { CanHold (entries_in table.old) types w }
-    ensures { HasCandidate (entries_in table.old) (entries_in table.new) types w result }
+// The number of the wanted type in the table, which holds it then.
+fn hold(table: &mut Table<'_>, w: Candidate) -> u16
+    requires { CanHold table.old w }
+    ensures { HasCandidate table.old table.new w result }
 {
     match w {
-        Candidate::Known(number) => Held { number, types },
-        Candidate::Made(e) => tables::have(table, types, e),
+        Candidate::Known(number) => number,
+        Candidate::Made(e) => table.have(e),
     }
 }
 
-// The number of the fault of r, of this kind, by rules 10 to 12, at this level under the binders below the depth, where its children have the types x,
-// y and z, or 0. As in check's walk the kinds of which there are many are named, so that each has code of its own; there the children are read by the
-// kind as well, so that no one list serves both.
+// The fault of r, of this kind, by rules 10 to 12, at this level under the binders, where its children have these types. As in check's walk the kinds of
+// which there are many are named, so that each has code of its own; there the children are read by the kind as well, so that no one list serves both.
+// The last arm hands on a copy of r, so that the record of the others stays in registers: without it typing 2,047 records took 1.2 times as long.
 fn own_number(
     table: &[u8],
-    binders: &[u32],
-    depth: usize,
+    binders: &Binders<'_>,
     level: u16,
     kind: Kind,
     r: Record,
-    x: u16,
-    y: u16,
-    z: u16,
-) -> u16
-    requires { depth ≤ length binders.now }
-    ensures { Judges (entries_in table.now) (stack binders.now depth) level kind r x y z result }
+    children: [u16; 3],
+) -> Result<(), Reason>
+    requires { length (binders_of binders.now) ≤ capacity binders.now }
+    ensures { Judges (entries_in table.now) (binders_of binders.now) level kind r children result }
 {
     match kind {
-        Kind::Number => judging::judge(table, binders, depth, level, Kind::Number, r, x, y, z),
-        Kind::Variable => judging::judge(table, binders, depth, level, Kind::Variable, r, x, y, z),
-        Kind::Function => judging::judge(table, binders, depth, level, Kind::Function, r, x, y, z),
+        Kind::Number => judging::judge(table, binders, level, Kind::Number, r, children),
+        Kind::Variable => judging::judge(table, binders, level, Kind::Variable, r, children),
+        Kind::Function => judging::judge(table, binders, level, Kind::Function, r, children),
         Kind::Application => {
-            judging::judge(table, binders, depth, level, Kind::Application, r, x, y, z)
+            judging::judge(table, binders, level, Kind::Application, r, children)
         }
-        Kind::Quote => judging::judge(table, binders, depth, level, Kind::Quote, r, x, y, z),
-        Kind::Splice => judging::judge(table, binders, depth, level, Kind::Splice, r, x, y, z),
-        _ => judging::judge(table, binders, depth, level, kind, r, x, y, z),
+        Kind::Quote => judging::judge(table, binders, level, Kind::Quote, r, children),
+        Kind::Splice => judging::judge(table, binders, level, Kind::Splice, r, children),
+        _ => judging::judge(table, binders, level, kind, Record { ..r }, children),
     }
 }
 
 // The fault of r by rules 10 to 12.
+#[tactic(auto, using(crate::proofs::Faults::judges_own))]
 fn own_fault(
     table: &[u8],
-    binders: &[u32],
-    depth: usize,
+    binders: &Binders<'_>,
     level: u16,
     r: Record,
-    x: u16,
-    y: u16,
-    z: u16,
+    children: [u16; 3],
 ) -> Result<(), Reason>
-    requires { depth ≤ length binders.now }
-    ensures { JudgesOwn (entries_in table.now) (stack binders.now depth) level r x y z result }
+    requires { length (binders_of binders.now) ≤ capacity binders.now }
+    ensures { JudgesOwn (entries_in table.now) (binders_of binders.now) level r children result }
 {
     let kind = Kind::of(r.kind);
-    judging::judged(own_number(table, binders, depth, level, kind, r, x, y, z))
+    own_number(table, binders, level, kind, r, children)
 }
 
-// The fault of r with its type, in the table of `types` entries that has that type: its lowest of 10, 11, 12 and 14.
+// The fault of r with its type, in the table that has that type: its lowest of 10, 11, 12 and 14.
 fn fault(
-    table: &[u8],
-    types: u16,
-    binders: &[u32],
-    depth: usize,
+    table: &Table<'_>,
+    binders: &Binders<'_>,
     level: u16,
     r: Record,
-    x: u16,
-    y: u16,
-    z: u16,
+    children: [u16; 3],
 ) -> Result<(), Reason>
-    requires types_value { 6 * types ≡ length table.now }
-    requires depth_in_bounds { depth ≤ length binders.now }
-    ensures { JudgesWhole (entries_in table.now) (stack binders.now depth) level r x y z result }
+    requires has_bytes { HasBytes table.now }
+    requires deep { length (binders_of binders.now) ≤ capacity binders.now }
+    ensures { JudgesWhole (entries_of table.now) (binders_of binders.now) level r children result }
 {
-    own_fault(table, binders, depth, level, r, x, y, z)?;
-    if kinds::MOST_TYPES < types {
+    own_fault(table.entries(), binders, level, r, children)?;
+    if kinds::MOST_TYPES < table.types() {
         return Err(Reason::TableFull);
     }
     Ok(())
 }
 
-// Gives record n, which is r, its type, at this level under the binders below the depth, where its children have the types x, y and z. Tells the type,
-// and how many entries the table then has.
+// Gives record n, which is r, its type, at this level under the binders, where its children have these types. Tells the type's number.
+#[tactic(auto, using(crate::proofs::Faults::grows_in_bytes, crate::proofs::Faults::held_bytes, crate::proofs::Faults::can_hold, crate::proofs::Faults::assigns))]
 pub fn assign(
-    table: &mut [u8],
-    types: u16,
-    binders: &[u32],
-    depth: usize,
+    table: &mut Table<'_>,
+    binders: &Binders<'_>,
     level: u16,
     n: u16,
     r: Record,
-    x: u16,
-    y: u16,
-    z: u16,
-) -> Result<Held, Refusal>
-    requires { CanAssign (entries_in table.old) types binders.now depth r x y }
-    ensures { Assigns (entries_in table.old) (entries_in table.new) types (stack binders.now depth) level n r x y z result }
+    children: [u16; 3],
+) -> Result<u16, Refusal>
+    requires { CanAssign table.old binders.now r children }
+    ensures { Assigns table.old table.new (binders_of binders.now) level n r children result }
 {
-    let w = wanted(&table[..6 * (types as usize)], binders, depth, r, x, y);
-    let held = hold(table, types, w);
-    let given = Record {
-        ty: held.number,
-        ..r
-    };
-    let end = 6 * (held.types as usize);
-    match fault(
-        &table[..end],
-        held.types,
-        binders,
-        depth,
-        level,
-        given,
-        x,
-        y,
-        z,
-    ) {
-        Ok(()) => Ok(held),
+    let w = wanted(table.entries(), binders, r, children);
+    let ty = hold(table, w);
+    match fault(table, binders, level, Record { ty, ..r }, children) {
+        Ok(()) => Ok(ty),
         Err(reason) => Err(Refusal { reason, place: n }),
     }
 }

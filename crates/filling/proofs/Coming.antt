@@ -4,7 +4,7 @@ use native.Mathlib.Omega.{arith}
 use mathlib.Core.Path.{◌≡◌, refl, ap, ◌∙◌}
 use mathlib.Core.List.{List}
 use mathlib.Core.Option.{none}
-use lib.ListN.{length, take}
+use lib.ListN.{length}
 use lib.Seq.{length-take-le}
 use Rattle.std.specs.Prelude.{Result, Ok}
 use Rattle.rules.specs.Types.{Table}
@@ -16,15 +16,14 @@ use Rattle.rules.specs.Check.{children_rule}
 use Rattle.rules.proofs.Tree.{first_le, next_le, chain_size, chain_none}
 use Rattle.inference.proofs.Growing.{longer}
 use Rattle.refusals.specs.declared.reasons.Refusal.{Refusal}
-use Rattle.judging.specs.Stack.{stack}
-use Rattle.typing.specs.declared.Child.{Child}
-use Rattle.typing.specs.Entering.{CanEnter, Enters}
+use Rattle.judging.specs.declared.Binders.{Binders}
+use Rattle.judging.specs.Stack.{capacity, Rebinds}
 use Rattle.typing.specs.Walking.{tree_size}
-use Rattle.typing.proofs.Depths.{stack_below}
 use Rattle.typing.proofs.TreeCounts.{tree_then_chain, record_then_chain}
-use Rattle.filling.specs.declared.Progress.{Progress}
-use Rattle.filling.specs.Filling.{size_at, CanInfer, CanFill, Fills, CanFillChild, CanSettle}
-use Rattle.filling.proofs.Inferring.{GoesOn, goes_on, infers_on, wanted_follows, can_grow}
+use Rattle.tables.specs.Having.{buffer_of, CanGrow}
+use Rattle.filling.specs.declared.Filler.{Filler}
+use Rattle.filling.specs.Filling.{size_at, CanInfer, records_of, env_of, table_of, Continues, CanFill, Fills}
+use Rattle.filling.proofs.Inferring.{GoesOn, goes_on, infers_on, can_grow}
 
 -- A child's tree, which may be none, then the chain after it.
 child_then_chain : (rs : List Record) → lowest (children_rule rs) bad_children 1 (length rs) ≡ none → (n : ℕ) → n ≤ length rs → size_at rs n + chain_size rs (next_of rs n) ≡ chain_size rs n
@@ -37,125 +36,116 @@ unfolding size_at
 size_there rs zero h = absurd (h refl)
 size_there rs (suc n) h = refl
 
--- The walk of record n began with es, gs and bs, and has come to es', gs', bs' and r; the tree of `child` comes next. x is the first child's type, or 0.
-pub record Come (rs : List Record) (es : Table) (gs bs : List ℕ) (d n types left : ℕ) (es' : Table) (gs' bs' : List ℕ) (child x : ℕ) (r : Progress) : Type 0 where
-  pub can : CanFill rs es gs bs d n types left
-  pub binders : length bs' ≡ length bs
-  pub table : length es' ≡ length es
-  pub given : length gs' ≡ length gs
-  pub kept : stack bs' d ≡ stack bs d
-  pub few : r.types ≤ most_types
-  pub infers : CanInfer rs (take r.types es') (stack bs d)
-  pub low : x ≤ r.types
-  pub less : r.left < left
-  pub within : child ≤ length rs
-  pub counted : r.left + tree_size rs n ≡ left + chain_size rs child
+pub continues_then : {f g h : Filler} → Continues f g → Continues g h → Continues f h
+continues_then a c = record {
+  records = c.records ∙ a.records;
+  table = c.table ∙ a.table;
+  bytes = c.bytes ∙ a.bytes;
+  given = c.given ∙ a.given;
+  capacity = c.capacity ∙ a.capacity;
+  room = c.room ∙ a.room;
+  places = c.places ∙ a.places;
+}
+
+-- The same under other binders, in as much room.
+pub continues_under : {f g : Filler} {b : Binders} → capacity b ≡ capacity g.binders → Continues f g → Continues f (record g { binders = b })
+continues_under same a = record { records = a.records; table = a.table; bytes = a.bytes; given = a.given; capacity = same ∙ a.capacity; room = a.room; places = a.places }
+
+-- The walk of record n began at f, and has come to g; the tree of `child` comes next. x is the first child's type, or 0.
+pub record Come (f : Filler) (n : ℕ) (g : Filler) (child x : ℕ) : Type 0 where
+  pub can : CanFill f n
+  pub continues : Continues f g
+  pub kept : env_of g ≡ env_of f
+  pub few : g.table.now.types ≤ most_types
+  pub infers : CanInfer (records_of f) (table_of g) (env_of f)
+  pub low : x ≤ g.table.now.types
+  pub less : g.left < f.left
+  pub within : child ≤ length (records_of f)
+  pub counted : g.left + tree_size (records_of f) n ≡ f.left + chain_size (records_of f) child
 
 -- Where record n is entered.
-module _ (rs : List Record) (es : Table) (gs bs : List ℕ) (d n types left : ℕ) (can : CanFill rs es gs bs d n types left) where
-  pub one_left : 1 ≤ left
-  one_left = omega (arith, can.enough, record_then_chain rs can.chained n can.here.real can.here.within)
+module _ {f : Filler} {n : ℕ} (can : CanFill f n) where
+  pub one_left : 1 ≤ f.left
+  one_left = omega (arith, can.enough, record_then_chain (records_of f) can.chained n can.here.real can.here.within)
 
-  pub entered : Come rs es gs bs d n types left es gs bs (first_of rs n) 0 (record { types = types; ty = 0; left = left - 1 })
+  pub entered : Come f n (record f { left = f.left - 1 }) (first_of (records_of f) n) 0
   entered = record {
     can = can;
-    binders = refl;
-    table = refl;
-    given = refl;
+    continues = record { records = refl; table = refl; bytes = refl; given = refl; capacity = refl; room = refl; places = refl };
     kept = refl;
     few = can.few;
     infers = can.infers;
     low = omega arith;
     less = omega (arith, one_left);
-    within = first_le rs n;
-    counted = omega (arith, one_left, record_then_chain rs can.chained n can.here.real can.here.within);
+    within = first_le (records_of f) n;
+    counted = omega (arith, one_left, record_then_chain (records_of f) can.chained n can.here.real can.here.within);
   }
 
-module _ {rs : List Record} {es : Table} {gs bs : List ℕ} {d n types left : ℕ} {es' : Table} {gs' bs' : List ℕ} {child x : ℕ} {r : Progress}
-    (come : Come rs es gs bs d n types left es' gs' bs' child x r) where
-  pub come_enter : CanEnter rs bs' d n
-  come_enter = record { here = come.can.here; room = omega (arith, come.can.binders, come.binders, one_left rs es gs bs d n types left come.can) }
+module _ {f g : Filler} {n child x : ℕ} (come : Come f n g child x) where
+  pub room_two : length (env_of g) + 2 ≤ capacity g.binders
+  room_two = omega (arith, come.can.binders, come.continues.capacity, ap length come.kept, one_left come.can)
 
-  -- The table as it is now has so many entries.
-  room : r.types < length es'
-  room = omega (arith, come.few, come.can.table, come.table)
+  -- The table as it is now has so many entries, and room for one more.
+  pub long : length (table_of g) ≡ g.table.now.types
+  long = length-take-le g.table.now.types (buffer_of g.table.now) (omega (arith, come.few, come.can.table, come.continues.room))
 
-  long : length (take r.types es') ≡ r.types
-  long = length-take-le r.types es' (omega (arith, room))
+  pub come_grows : CanGrow g.table.now
+  come_grows = can_grow come.infers (omega (arith, come.few, come.can.table, come.continues.room)) come.few
 
-  pub come_settle : (y : ℕ) → CanSettle rs es' gs' bs' d n left r x y
-  come_settle y = record {
-    here = come.can.here;
-    binders = omega (arith, come.can.binders, come.binders);
-    table = can_grow come.infers room come.few;
-    follows = rw come.kept (rw long at (wanted_follows come.infers n come.can.here.real come.can.here.within x y (omega (arith, long, come.low))));
-    some = one_left rs es gs bs d n types left come.can;
-    given = omega (arith, come.can.given, come.given);
-  }
+  -- The next child's tree can be walked with the records left, under the binders b.
+  module _ {b : Binders} {Γ : Env} (bound : Rebinds g.binders b Γ) (few : length Γ ≤ length (env_of f) + 2)
+      (over : (A : Table) → CanInfer (records_of f) A (env_of f) → CanInfer (records_of f) A Γ) where
+    child_infers : CanInfer (records_of f) (table_of g) Γ
+    child_infers = over _ come.infers
 
-  -- The next child's tree can be walked with the records left.
-  module _ {Γ : Env} {k : ℕ} {bs₁ : List ℕ} {c : Child} (enters : Enters Γ k child bs' bs₁ d c) (same : length bs₁ ≡ length bs')
-      (over : (A : Table) → CanInfer rs A (stack bs' d) → CanInfer rs A Γ) where
-    child_infers : CanInfer rs (take r.types es') (stack bs₁ c.depth)
-    child_infers = rw enters.over (over _ (rw come.kept come.infers))
-
-    pub come_child : CanFillChild rs es' gs' bs₁ c.depth c.n r
-    come_child = record {
-      few = come.few;
-      can = λ there.
-          let here : (child ≡ 0 → ⊥) = λ e. there (enters.number ∙ e) in
-          let size = child_then_chain rs come.can.chained child come.within in
-          let is = size_there rs child here in
-          rw enters.number (record {
-            here = record { linked = come.can.here.linked; real = omega (arith, here); within = come.within };
-            chained = come.can.chained;
-            enough = omega (arith, come.counted, come.can.enough);
-            most = omega (arith, come.less, come.can.most);
-            binders = omega (arith, come.less, come.can.binders, come.binders, enters.most);
-            table = omega (arith, come.can.table, come.table);
-            few = come.few;
-            given = omega (arith, come.less, come.can.given, come.given);
-            infers = child_infers;
-          });
-    }
+    pub come_child : (child ≡ 0 → ⊥) → CanFill (record g { binders = b }) child
+    come_child there =
+        let size = child_then_chain (records_of f) come.can.chained child come.within in
+        let is = size_there (records_of f) child there in
+        record {
+          here = rw come.continues.records (record { linked = come.can.here.linked; real = omega (arith, there); within = come.within });
+          chained = rw come.continues.records come.can.chained;
+          enough = rw come.continues.records (omega (arith, come.counted, come.can.enough));
+          most = omega (arith, come.less, come.can.most);
+          binders = omega (arith, come.less, come.can.binders, come.continues.capacity, bound.room, ap length bound.are);
+          table = omega (arith, come.can.table, come.continues.room);
+          few = come.few;
+          given = omega (arith, come.less, come.can.given, come.continues.places);
+          infers = rw (come.continues.records, bound.are) child_infers;
+        }
 
     -- What the walk of the child keeps, whatever comes of it.
-    module _ {es₁ : Table} {gs₁ bs₂ : List ℕ} {o : Result Progress Refusal} (fills : Fills rs es' es₁ gs' gs₁ bs₁ bs₂ c.depth c.level c.n r.types r.left o) where
-      pub still_kept : stack bs₂ d ≡ stack bs d
-      still_kept = stack_below bs₂ bs₁ d c.depth enters.above fills.kept ∙ enters.kept ∙ come.kept
+    module _ {k : ℕ} {q : Filler} where
+      pub still : {o : Result ℕ Refusal} → Fills (record g { binders = b }) q k child o → Continues f q
+      still fills = continues_then (continues_under bound.room come.continues) fills.continues
 
-      pub still_room : length es₁ ≡ length es
-      still_room = fills.room ∙ come.table
+      -- And then the walk has come further.
+      module _ {y : ℕ} (fills : Fills (record g { binders = b }) q k child (Ok y)) where
+        grows : GoesOn (table_of g) (table_of q) fills.done.term
+        grows = goes_on child_infers come.can.chained k child come.within _ _ (rw (come.continues.records, bound.are) at fills.done.is)
 
-    -- And then the walk has come further.
-    module _ {es₁ : Table} {gs₁ bs₂ : List ℕ} {q : Progress} (fills : Fills rs es' es₁ gs' gs₁ bs₁ bs₂ c.depth c.level c.n r.types r.left (Ok q)) where
-      grows : GoesOn (take r.types es') (take q.types es₁) fills.done.term
-      grows = goes_on child_infers come.can.chained c.level c.n (omega (arith, enters.number, come.within)) _ _ fills.done.is
+        grown : length (table_of q) ≡ q.table.now.types
+        grown = length-take-le q.table.now.types (buffer_of q.table.now) (omega (arith, fills.done.few, come.can.table, come.continues.room, fills.continues.room))
 
-      grown : length (take q.types es₁) ≡ q.types
-      grown = length-take-le q.types es₁ (omega (arith, fills.done.few, come.can.table, come.table, fills.room))
+        -- The type of this tree, and that of one before it.
+        pub come_type : y ≤ q.table.now.types
+        come_type = omega (arith, fills.done.type, grows.low, grown)
 
-      -- The type of this tree, and that of one before it.
-      pub come_type : q.ty ≤ q.types
-      come_type = omega (arith, fills.done.type, grows.low, grown)
+        pub come_before : x ≤ q.table.now.types
+        come_before = omega (arith, come.low, long, longer grows.begins, grown)
 
-      pub come_before : x ≤ q.types
-      come_before = omega (arith, come.low, long, longer grows.begins, grown)
-
-      pub come_further : (x' : ℕ) → x' ≤ q.types → length gs₁ ≡ length gs' → length bs₂ ≡ length bs₁ → Come rs es gs bs d n types left es₁ gs₁ bs₂ (next_of rs child) x' q
-      come_further x' low given kept = record {
-        can = come.can;
-        binders = kept ∙ same ∙ come.binders;
-        table = still_room fills;
-        given = given ∙ come.given;
-        kept = still_kept fills;
-        few = fills.done.few;
-        infers = infers_on come.infers grows;
-        low = low;
-        less = omega (arith, fills.done.counted, come.less);
-        within = next_le rs child;
-        counted =
-            let size = child_then_chain rs come.can.chained child come.within in
-            let at : size_at rs c.n ≡ size_at rs child = ap (size_at rs) enters.number in
-            omega (arith, come.counted, fills.done.counted);
-      }
+        pub come_further : {b' : Binders} (x' : ℕ) → x' ≤ q.table.now.types → Rebinds q.binders b' (env_of f) → Come f n (record q { binders = b' }) (next_of (records_of f) child) x'
+        come_further x' low back = record {
+          can = come.can;
+          continues = continues_under back.room (still fills);
+          kept = back.are;
+          few = fills.done.few;
+          infers = infers_on come.infers grows;
+          low = low;
+          less = omega (arith, fills.done.counted, come.less);
+          within = next_le (records_of f) child;
+          counted =
+              let size = child_then_chain (records_of f) come.can.chained child come.within in
+              let count = rw come.continues.records at fills.done.counted in
+              omega (arith, come.counted, count);
+        }

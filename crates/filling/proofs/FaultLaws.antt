@@ -1,5 +1,6 @@
 -- The fault of an inference that goes on after another, and of one record.
 use Prim.Native.Nat.{ℕ}
+use mathlib.Core.List.{[], ◌∷◌}
 use mathlib.Core.Option.{Option, none, some}
 use mathlib.Core.Path.{◌≡◌, refl}
 use Rattle.rules.specs.Kinds.{kind_of}
@@ -31,8 +32,8 @@ unless_none f o e = rw (e, unless_refused)
 
 -- A record's inference by its fault and its type.
 pub assigned_by : (A : Table) (Γ : Env) (l n : ℕ) (r : Record) (x y z : ℕ) (c s e : Term) → x ≡ type_of c → y ≡ type_of s → z ≡ type_of e →
-    let w = wanted_for A Γ r x y in
+    let w = wanted_for A Γ r (x ∷ y ∷ z ∷ []) in
     assigned A Γ l (kind_of r.kind) (fields_meant r) n c s e
-    ≡ unless_refused (fault_for A Γ l n r x y z) (filled (table_for A w) (node (kind_of r.kind) (retyped (number_for A w) (fields_meant r)) c s e))
+    ≡ unless_refused (fault_for A Γ l n r (x ∷ y ∷ z ∷ [])) (filled (table_for A w) (node (kind_of r.kind) (retyped (number_for A w) (fields_meant r)) c s e))
 unfolding assigned fault_for
 assigned_by A Γ l n r x y z c s e hx hy hz = rw (hx, hy, hz) refl

@@ -4,7 +4,7 @@ use native.Mathlib.Omega.{arith}
 use mathlib.Core.List.{List}
 use mathlib.Core.Option.{none}
 use mathlib.Core.Path.{◌≡◌, ap, sym, subst}
-use lib.ListN.{length, get_or, take}
+use lib.ListN.{length, get_or}
 use lib.Seq.{length-take-le, get_or-take}
 use Rattle.rules.specs.Lists.{All}
 use Rattle.rules.specs.Kinds.{number, variable, function, fix, lift, quote, splice, application, Kind, leaf₀, unary₁, binary₂, ternary₃}
@@ -26,8 +26,9 @@ use Rattle.inference.proofs.Growing.{begins_itself, begins_then, longer, follows
 use Rattle.inference.proofs.Sound.{Sound, sound, env_under, binds₁_in, binds₃_in}
 use Rattle.inference.proofs.ByLinks.{placeless_fills, inferred_by_links, tree_formed}
 use Rattle.inference.proofs.Generations.{inferred_nothing}
-use Rattle.typing.specs.Entering.{kind_no, fields_no}
-use Rattle.tables.specs.Having.{CanGrow}
+use Rattle.typing.specs.Reading.{kind_no, fields_no}
+use Rattle.tables.specs.declared.Table.{Table as TypeTable}
+use Rattle.tables.specs.Having.{buffer_of, entries_of, CanGrow}
 use Rattle.assigning.specs.Assigning.{MayFollow}
 use Rattle.filling.specs.Filling.{CanInfer}
 
@@ -118,14 +119,14 @@ module _ {rs : List Record} {A : Table} {Γ : Env} (can : CanInfer rs A Γ) wher
     pub wanted_follows : (x y : ℕ) → x ≤ length A → MayFollow (length A) (wanted A Γ (kind_no rs n) (fields_no rs n) x y)
     wanted_follows x y h = wanted_parts can.first A Γ (kind_no rs n) (fields_no rs n) x y (longer can.begins) (can.fielded n real (omega arith)) h
 
--- The first entries of a buffer that has room for more.
-pub can_grow : {rs : List Record} {es : Table} {types : ℕ} {Γ : Env} → CanInfer rs (take types es) Γ → types < length es → types ≤ most_types → CanGrow es types
-can_grow {rs} {es} {types} can room few = record {
+-- A table whose buffer has room for more.
+pub can_grow : {rs : List Record} {t : TypeTable} {Γ : Env} → CanInfer rs (entries_of t) Γ → t.types < length (buffer_of t) → t.types ≤ most_types → CanGrow t
+can_grow {rs} {t} can room few = record {
   room = room;
   few = few;
   earlier = λ n h.
-      let long = length-take-le types es (omega arith) in
-      let (_, p, q) = follows n (get_or (take types es) n no_entry) (can.entries (suc n) (omega arith) (omega arith)).1 in
-      let e = get_or-take types es n no_entry h in
+      let long = length-take-le t.types (buffer_of t) (omega arith) in
+      let (_, p, q) = follows n (get_or (entries_of t) n no_entry) (can.entries (suc n) (omega arith) (omega arith)).1 in
+      let e = get_or-take t.types (buffer_of t) n no_entry h in
       record { a = omega (arith, p, ap (λ x. x.a) e); b = omega (arith, q, ap (λ x. x.b) e) };
 }

@@ -1,149 +1,106 @@
 // The walk that gives each record of a tree its type, children first, in chain order. It calls itself on each child's tree with the records left as
-// the falling number. The binders over a record stand in a lent array, used as a stack; the table grows in a lent buffer; the types are kept by
-// the record's number in preorder, so that a tree's are together.
+// the falling number. The binders over a record are a stack; the table grows in a lent buffer; the types are kept by the record's number in preorder,
+// so that a tree's are together.
 #![tactic(auto)]
 
 ghost use Rattle.std.specs.Prelude.{◌*◌, ◌≤◌, length};
-ghost use Rattle.records.specs.View.{entries_in, records_in};
-ghost use Rattle.filling.specs.Filling.{CanFill, Fills, CanFillChild, CanSettle, Settles, CanFillAll, FillsAll};
+ghost use Rattle.records.specs.View.{records_in};
+ghost use Rattle.filling.specs.Filling.{CanSettle, Settles, CanFill, Fills, CanFillAll, FillsAll};
 
+use judging::Binders;
+use kinds::Kind;
+use records::Record;
 use refusals::Refusal;
+use tables::Table;
 
-// How far the walk has come: how many entries the table has; the type of the tree that was walked last, 0 for none; and how many records are left.
-#[derive(Clone, Copy)]
-pub struct Progress {
-    pub types: u16,
-    pub ty: u16,
-    pub left: u16,
-}
-
-// Gives record n, whose children's trees are done, its type: x and y are the types of the first two, and that of the third is the last. `left` is how
-// many records were left before it.
-fn settle(
-    records: &[u8],
-    n: u16,
-    level: u16,
-    binders: &[u32],
-    depth: usize,
-    table: &mut [u8],
-    given: &mut [u16],
+// How far the walk has come: the binders over the record where it stands, the table, the types that are given so far, and how many records are left.
+#[derive(Drop)]
+struct Filler<'a, 'b, 'c> {
+    records: &'a [u8],
+    binders: Binders<'b>,
+    table: &'a mut Table<'c>,
+    given: &'b mut [u16],
     left: u16,
-    done: Progress,
-    x: u16,
-    y: u16,
-) -> Result<Progress, Refusal>
-    requires { CanSettle (records_in records.now) (entries_in table.old) given.old binders.now depth n left done x y }
-    ensures { Settles (records_in records.now) (entries_in table.old) (entries_in table.new) given.old given.new binders.now depth level n left done x y result }
-{
-    let r = records::record_no(records, n);
-    let held = assigning::assign(
-        table, done.types, binders, depth, level, n, r, x, y, done.ty,
-    )?;
-    let at = given.len() - (left as usize);
-    given[at] = held.number;
-    Ok(Progress {
-        types: held.types,
-        ty: held.number,
-        left: done.left,
-    })
 }
 
-// Goes on with the tree of record n, if there is one.
-#[cycle(fill_fill_child)]
-fn fill_child(
-    records: &[u8],
-    n: u16,
-    level: u16,
-    binders: &mut [u32],
-    depth: usize,
-    table: &mut [u8],
-    given: &mut [u16],
-    before: Progress,
-) -> Result<Progress, Refusal>
-    requires { CanFillChild (records_in records.now) (entries_in table.old) given.old binders.old depth n before }
-    ensures { Fills (records_in records.now) (entries_in table.old) (entries_in table.new) given.old given.new binders.old binders.new depth level n before.types before.left result }
-{
-    if n == 0 {
-        return Ok(Progress { ty: 0, ..before });
+impl Filler<'_, '_, '_> {
+    // Gives record n, which is r and whose children's trees are done, its type, at its place among the types: its children have these types.
+    fn settle(
+        &mut self,
+        n: u16,
+        r: Record,
+        level: u16,
+        at: usize,
+        children: [u16; 3],
+    ) -> Result<u16, Refusal>
+        requires { CanSettle self.old r at children }
+        ensures { Settles self.old self.new level n r at children result }
+    {
+        let ty = assigning::assign(self.table, &self.binders, level, n, r, children)?;
+        self.given[at] = ty;
+        Ok(ty)
     }
-    fill(
-        records,
-        n,
-        level,
-        binders,
-        depth,
-        table,
-        given,
-        before.types,
-        before.left,
-    )
-}
 
-// Gives each record of the tree of record n its type, at this level under the binders below the depth, where the table has `types` entries. `left` is
-// how many records are left, and enough for the tree.
-#[cycle(fill_fill_child)]
-fn fill(
-    records: &[u8],
-    n: u16,
-    level: u16,
-    binders: &mut [u32],
-    depth: usize,
-    table: &mut [u8],
-    given: &mut [u16],
-    types: u16,
-    left: u16,
-) -> Result<Progress, Refusal>
-    requires { CanFill (records_in records.now) (entries_in table.old) given.old binders.old depth n types left }
-    ensures { Fills (records_in records.now) (entries_in table.old) (entries_in table.new) given.old given.new binders.old binders.new depth level n types left result }
-{
-    let entered = Progress {
-        types,
-        ty: 0,
-        left: left - 1,
-    };
-    let c = typing::first_child(records, binders, depth, level, n);
-    let e = typing::third_child(records, n);
-    let first = fill_child(
-        records, c.n, c.level, binders, c.depth, table, given, entered,
-    )?;
-    let s = typing::second_child(records, binders, depth, level, n);
-    let second = fill_child(records, s.n, s.level, binders, s.depth, table, given, first)?;
-    let third = fill_child(records, e, level, binders, depth, table, given, second)?;
-    settle(
-        records, n, level, binders, depth, table, given, left, third, first.ty, second.ty,
-    )
+    // Gives each record of the tree of record n its type, at this level under the binders. There are enough records left for the tree.
+    fn tree(&mut self, n: u16, level: u16) -> Result<u16, Refusal>
+        requires { CanFill self.old n }
+        ensures { Fills self.old self.new level n result }
+    {
+        let r = records::record_no(self.records, n);
+        let kind = Kind::of(r.kind);
+        let at = self.given.len() - (self.left as usize);
+        self.left -= 1;
+        let depth = self.binders.depth();
+        let s = records::next_of(self.records, r.first);
+        let e = records::next_of(self.records, s);
+        typing::push_first(&mut self.binders, kind, level, r.a);
+        let x = if r.first == 0 {
+            0
+        } else {
+            self.tree(r.first, kind.first_level(level))?
+        };
+        self.binders.truncate(depth);
+        typing::push_second(&mut self.binders, kind, r.a, r.b);
+        let y = if s == 0 { 0 } else { self.tree(s, level)? };
+        self.binders.truncate(depth);
+        let z = if e == 0 { 0 } else { self.tree(e, level)? };
+        self.settle(n, r, level, at, [x, y, z])
+    }
 }
 
 // Gives each record of the tree of record 1, the root, its type, at level 0 under no binders, with a stack of room for N of them, two a record.
 fn fill_in<const N: usize>(
     records: &[u8],
-    table: &mut [u8],
-    types: u16,
+    table: &mut Table<'_>,
     given: &mut [u16],
-) -> Result<Progress, Refusal>
-    requires can_fill { CanFillAll (records_in records.now) (entries_in table.old) types given.old }
+) -> Result<u16, Refusal>
+    requires can_fill { CanFillAll (records_in records.now) table.old given.old }
     requires enough_room { 2 * length (records_in records.now) ≤ N }
     requires fits_a_stack { N ≤ 4096 }
-    ensures { FillsAll (records_in records.now) (entries_in table.old) (entries_in table.new) types given.new result }
+    ensures { FillsAll (records_in records.now) table.old table.new given.new result }
 {
-    let count = records::record_count(records);
-    let mut binders = [0u32; N];
-    fill(records, 1, 0, &mut binders, 0, table, given, types, count)
+    let mut slots = [0u32; N];
+    let mut filler = Filler {
+        records,
+        binders: Binders::none(&mut slots),
+        table,
+        given,
+        left: records::record_count(records),
+    };
+    let root = filler.tree(1, 0);
+    // What was lent is taken out of the struct, so that the proof has what it ends as.
+    let (_given, _table) = (filler.given, filler.table);
+    root
 }
 
 // The same. A smaller program has a smaller stack, which is sooner cleared.
-pub fn fill_all(
-    records: &[u8],
-    table: &mut [u8],
-    types: u16,
-    given: &mut [u16],
-) -> Result<Progress, Refusal>
-    requires { CanFillAll (records_in records.now) (entries_in table.old) types given.old }
-    ensures { FillsAll (records_in records.now) (entries_in table.old) (entries_in table.new) types given.new result }
+pub fn fill_all(records: &[u8], table: &mut Table<'_>, given: &mut [u16]) -> Result<u16, Refusal>
+    requires { CanFillAll (records_in records.now) table.old given.old }
+    ensures { FillsAll (records_in records.now) table.old table.new given.new result }
 {
     match records::record_count(records) {
-        0..=64 => fill_in::<128>(records, table, types, given),
-        65..=512 => fill_in::<1024>(records, table, types, given),
-        _ => fill_in::<4096>(records, table, types, given),
+        0..=64 => fill_in::<128>(records, table, given),
+        65..=512 => fill_in::<1024>(records, table, given),
+        _ => fill_in::<4096>(records, table, given),
     }
 }

@@ -1,9 +1,9 @@
--- The look-up of an entry in the first entries of a buffer, and the write of one that is missing: `looking` for search.
-use Prim.Native.Nat.{ℕ, zero, suc, ◌+◌, ◌≤◌, ◌<◌, max}
+-- The look-up of an entry in a table, and the write of one that is missing: `looking` for search.
+use Prim.Native.Nat.{ℕ, zero, suc, ◌+◌, ◌*◌, ◌≤◌, ◌<◌}
 use native.Mathlib.Omega.{arith}
 use native.Mathlib.Numerals.{add-one}
 use mathlib.Core.Bool.{Bool, true, false}
-use mathlib.Core.List.{List, [], ◌∷◌, ◌++◌}
+use mathlib.Core.List.{[], ◌∷◌, ◌++◌}
 use mathlib.Core.Path.{◌≡◌, refl, ap, sym, ◌∙◌}
 use lib.ListN.{length, get_or, take, drop, length-set}
 use lib.Seq.{length-take-le, drop-cons, drop-length, get_or-take, take-suc-set}
@@ -13,8 +13,10 @@ use Rattle.rules.specs.Conditions.{same, same_entry}
 use Rattle.rules.proofs.General.{is_false}
 use Rattle.rules.proofs.Tests.{meets}
 use Rattle.inference.specs.Inference.{having, before}
-use Rattle.records.specs.View.{entries_in, EntryPut}
-use Rattle.tables.specs.Having.{CanGrow, CanHave, CanLookUp, Has}
+use Rattle.records.specs.View.{EntryPut}
+use Rattle.records.proofs.Entries.{entries_length, entries_front}
+use Rattle.tables.specs.declared.Table.{Table as TypeTable}
+use Rattle.tables.specs.Having.{buffer_of, entries_of, HasBytes, AreEntries, CanGrow, CanLookUp, Has}
 
 -- From entry i on.
 before_from : (A : Table) (x : Entry) (i : ℕ) → i < length A → before (drop i A) x ≡ pick (same_entry (get_or A i no_entry) x) 0 (suc (before (drop (suc i) A) x))
@@ -30,50 +32,40 @@ before_past A x (suc i) h past =
     let next : before (drop i A) x ≡ suc (before (drop (suc i) A) x) = before_from A x i (omega arith) ∙ rw unlike in
     omega (arith, next, before_past A x i (omega arith) (λ n l. past n (omega arith)))
 
--- None of the first i of `types` entries is x.
-pub record Passed (es : Table) (types : ℕ) (x : Entry) (i : ℕ) : Type 0 where
-  pub most : i ≤ types
-  pub left : before (take types es) x ≡ i + before (drop i (take types es)) x
+-- None of the first i of the table's entries is x.
+pub record Passed (t : TypeTable) (x : Entry) (i : ℕ) : Type 0 where
+  pub most : i ≤ t.types
+  pub left : before (entries_of t) x ≡ i + before (drop i (entries_of t)) x
 
-pub lookup_starts : (es : Table) (from types : ℕ) (x : Entry) → CanLookUp es from types x → Passed es types x from
-lookup_starts es from types x can = record {
+pub lookup_starts : (t : TypeTable) (from : ℕ) (x : Entry) → CanLookUp t from x → Passed t x from
+lookup_starts t from x can = record {
   most = can.most;
-  left = before_past (take types es) x from (omega (arith, length-take-le types es can.room, can.most))
-      (λ n h e. can.past n h (sym (get_or-take types es n no_entry (omega (arith, can.most))) ∙ e));
+  left = before_past (entries_of t) x from (omega (arith, length-take-le t.types (buffer_of t) can.room, can.most))
+      (λ n h e. can.past n h (sym (get_or-take t.types (buffer_of t) n no_entry (omega (arith, can.most))) ∙ e));
 }
 
-module _ (es : Table) (types : ℕ) (x : Entry) (room : types ≤ length es) where
-  module _ (i : ℕ) (p : Passed es types x i) where
-    pub lookup_ends : types ≤ i → i ≡ before (take types es) x
+module _ (t : TypeTable) (x : Entry) (room : t.types ≤ length (buffer_of t)) where
+  module _ (i : ℕ) (p : Passed t x i) where
+    pub lookup_ends : t.types ≤ i → i ≡ before (entries_of t) x
     unfolding before
     lookup_ends h =
-        let e : i ≡ length (take types es) = omega (arith, length-take-le types es room, p.most) in
-        let none : before (drop i (take types es)) x ≡ 0 = rw (e, drop-length) in
+        let e : i ≡ length (entries_of t) = omega (arith, length-take-le t.types (buffer_of t) room, p.most) in
+        let none : before (drop i (entries_of t)) x ≡ 0 = rw (e, drop-length) in
         omega (arith, p.left, none)
 
-    module _ (h : i < types) (y : Entry) (b : Bool) (read : y ≡ get_or es i no_entry) (test : b ≡ same_entry y x) where
-      here : before (drop i (take types es)) x ≡ pick b 0 (suc (before (drop (suc i) (take types es)) x))
-      here = before_from (take types es) x i (omega (arith, length-take-le types es room)) ∙ ap (λ c. pick c 0 (suc (before (drop (suc i) (take types es)) x))) (ap (λ z. same_entry z x) (get_or-take types es i no_entry h ∙ sym read) ∙ sym test)
+    module _ (h : i < t.types) (y : Entry) (b : Bool) (read : y ≡ get_or (buffer_of t) i no_entry) (test : b ≡ same_entry y x) where
+      here : before (drop i (entries_of t)) x ≡ pick b 0 (suc (before (drop (suc i) (entries_of t)) x))
+      here = before_from (entries_of t) x i (omega (arith, length-take-le t.types (buffer_of t) room))
+          ∙ ap (λ c. pick c 0 (suc (before (drop (suc i) (entries_of t)) x))) (ap (λ z. same_entry z x) (get_or-take t.types (buffer_of t) i no_entry h ∙ sym read) ∙ sym test)
 
-      pub lookup_finds : b ≡ true → i ≡ before (take types es) x
-      lookup_finds e = let z : before (drop i (take types es)) x ≡ 0 = here ∙ rw e in omega (arith, p.left, z)
+      pub lookup_finds : b ≡ true → i ≡ before (entries_of t) x
+      lookup_finds e = let z : before (drop i (entries_of t)) x ≡ 0 = here ∙ rw e in omega (arith, p.left, z)
 
-      pub lookup_goes_on : b ≡ false → Passed es types x (i + 1)
+      pub lookup_goes_on : b ≡ false → Passed t x (i + 1)
       lookup_goes_on e = record {
         most = omega arith;
-        left = let s : before (drop i (take types es)) x ≡ suc (before (drop (suc i) (take types es)) x) = here ∙ rw e in rw (add-one i) (omega (arith, p.left, s));
+        left = let s : before (drop i (entries_of t)) x ≡ suc (before (drop (suc i) (entries_of t)) x) = here ∙ rw e in rw (add-one i) (omega (arith, p.left, s));
       }
-
--- No entry that stands before its parts.
-pub can_count : (es : Table) (from types : ℕ) (x : Entry) → CanHave es types x → from ≡ max x.a x.b → CanLookUp es from types x
-can_count es from types x can e =
-    let p = can.parts in
-    let most : from ≤ types = omega (arith, p.a, p.b) in
-    record {
-      room = omega (arith, can.table.room);
-      most = most;
-      past = λ n h d. let q = can.table.earlier n (omega arith) in omega (arith, q.a, q.b, ap (λ y. y.a) d, ap (λ y. y.b) d);
-    }
 
 -- An entry that stands in the table, and one that is missing.
 found_kept : (A : Table) (x : Entry) → before A x < length A → having A x ≡ A
@@ -103,24 +95,41 @@ before_most (y ∷ ys) x = go (same_entry y x) (before_most ys x)
     go true h = omega arith
     go false h = omega arith
 
-module _ (s : List ℕ) (types : ℕ) (x : Entry) (can : CanGrow (entries_in s) types) (found : ℕ) (told : found ≡ before (take types (entries_in s)) x) where
-  long : length (take types (entries_in s)) ≡ types
-  long = length-take-le types (entries_in s) (omega (arith, can.room))
+module _ (t : TypeTable) (x : Entry) (can : CanGrow t) (found : ℕ) (told : found ≡ before (entries_of t) x) where
+  long : length (entries_of t) ≡ t.types
+  long = length-take-le t.types (buffer_of t) (omega (arith, can.room))
 
-  pub has_found : found < types → Has (entries_in s) (entries_in s) types x (record { number = found + 1; types = types })
+  pub found_fits : found ≤ t.types
+  found_fits = omega (arith, long, before_most (entries_of t) x)
+
+  pub has_found : (found ≡ t.types → ⊥) → Has t t x (found + 1)
   has_found h = record {
-    table = sym (found_kept (take types (entries_in s)) x (omega (arith, long)));
+    same = refl;
+    table = sym (found_kept (entries_of t) x (omega (arith, long, found_fits)));
     number = omega arith;
     fits = omega arith;
     room = refl;
   }
 
-  pub has_appended : (s' : List ℕ) → types ≤ found → EntryPut s types x s' → Has (entries_in s) (entries_in s') types x (record { number = types + 1; types = types + 1 })
-  has_appended s' h put = record {
-    table = rw (add-one types, put.things) (take-suc-set (entries_in s) types x can.room ∙ sym (missing_appended (take types (entries_in s)) x (omega (arith, long))));
-    number = omega (arith, long, before_most (take types (entries_in s)) x);
+  pub has_appended : (t' : TypeTable) → found ≡ t.types → t'.bytes.ghost_name ≡ t.bytes.ghost_name → t'.types ≡ t.types + 1 → EntryPut t.bytes.now t.types x t'.bytes.now
+      → Has t t' x (found + 1)
+  has_appended t' h kept more put = record {
+    same = kept;
+    table = rw (more, add-one t.types, put.things) (take-suc-set (buffer_of t) t.types x can.room ∙ sym (missing_appended (entries_of t) x (omega (arith, long))));
+    number = omega arith;
     fits = omega arith;
-    room = ap length put.things ∙ length-set (entries_in s) types x;
+    room = ap length put.things ∙ length-set (buffer_of t) t.types x;
   }
 
-pub ruleset looking = (can_count, lookup_starts, lookup_ends, lookup_finds, lookup_goes_on, has_found, has_appended)
+-- The bytes of the table's entries.
+module _ (t : TypeTable) (h : HasBytes t) where
+  pub bytes_there : 6 * t.types ≤ length t.bytes.now
+  bytes_there = omega (arith, h.room, entries_length t.bytes.now)
+
+  pub bytes_long : 6 * t.types ≡ length (take (6 * t.types) t.bytes.now)
+  bytes_long = sym (length-take-le (6 * t.types) t.bytes.now bytes_there)
+
+  pub are_entries : AreEntries t (take (6 * t.types) t.bytes.now)
+  are_entries = record { long = sym bytes_long; are = entries_front t.bytes.now t.types bytes_there }
+
+pub ruleset looking = (lookup_starts, lookup_ends)

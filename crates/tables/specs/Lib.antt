@@ -1,2 +1,2 @@
--- What it is for a table to have an entry.
+-- What it is for a table that grows to have an entry.
 pub mod Having

@@ -1,8 +1,7 @@
 -- The invariant of `count_before`: none of the first i entries is the one looked for.
-use Rattle.records.specs.View.{entries_in}
 use Rattle.records.specs.Meant.{entry_meant}
 use Rattle.tables.proofs.Lookup.{Passed}
-use Rattle.tables.proofs.count_before.Given as goal
+use Rattle.tables.proofs.Table.count_before.Given as goal
 
 abbrev pub invariant-loop-i : goal.invariant-loop-i
-invariant-loop-i l = Passed (entries_in l.table) l.types (entry_meant l.e) l.i
+invariant-loop-i l = Passed l.self (entry_meant l.e) l.i
