@@ -1,10 +1,10 @@
 -- The answer of infer as document 02's, field by field, and what infer ensures.
-use Rattle.std.specs.Prelude.{ℕ, suc, ◌*◌, ◌≤◌, List, ◌≡◌, length, take, drop}
+use Rattle.std.specs.Prelude.{ℕ, suc, ◌*◌, ◌≤◌, List, ◌≡◌, length, drop}
 use Rattle.rules.specs.Editions.{first_edition}
 use Rattle.rules.specs.Terms.{Term, type_of}
 use Rattle.rules.specs.Types.{Table}
 use Rattle.rules.specs.FieldUses.{omitted}
-use Rattle.rules.specs.Format.{most_types, most_records, record_count}
+use Rattle.rules.specs.Format.{most_types, most_records}
 use Rattle.rules.specs.Meets.{MeetsLayout}
 use Rattle.rules.specs.Refusals.{Refusal as MeantRefusal}
 use Rattle.rules.specs.Run.{output_needed, work_needed}
@@ -13,7 +13,6 @@ use Rattle.inference.specs.Infer.{InferAnswer as MeantInferAnswer, answer_of, ou
 use Rattle.records.specs.View.{entries_in}
 use Rattle.refusals.specs.declared.reasons.Refusal.{Refusal}
 use Rattle.refusals.specs.Reports.{refusal_meant}
-use Rattle.filling.specs.declared.Progress.{Progress}
 use Rattle.infer_call.specs.declared.InferAnswer.{InferAnswer}
 
 abbrev pub infer_meant : InferAnswer → MeantInferAnswer
@@ -29,21 +28,20 @@ pub record CanType (program out work : List ℕ) : Type 0 where
   pub long : length work ≡ work_needed
 
 -- And there is room for a table of 257 entries, and for the types of as many records as a program may have.
-pub record CanTypeWith (program out work table given : List ℕ) : Type 0 where
+pub record CanTypeWith (program out work bytes given : List ℕ) : Type 0 where
   pub can : CanType program out work
-  pub entries : length table ≡ 6 * suc most_types
+  pub entries : length bytes ≡ 6 * suc most_types
   pub types : length given ≡ most_records
 
--- The inference of the program is filled, and what it fills stands in the arrays: the table in its first entries, the types in preorder.
-pub record CanWriteFilled (program out work table given : List ℕ) (done : Progress) : Type 0 where
+-- The inference of the program is filled, and what it fills is the table, the types in preorder and the root's type.
+pub record CanWriteFilled (program out work table given : List ℕ) (root : ℕ) : Type 0 where
   pub can : CanType program out work
   pub term : Term
-  pub is : inference first_edition program ≡ filled (take done.types (entries_in table)) term
-  pub few : done.types ≤ most_types
-  pub entries : length table ≡ 6 * suc most_types
-  pub type : done.ty ≡ type_of term
-  pub room : record_count program ≤ length given
-  pub types : take (record_count program) given ≡ types_of term
+  pub is : inference first_edition program ≡ filled (entries_in table) term
+  pub few : length (entries_in table) ≤ most_types
+  pub entries : length table ≡ 6 * length (entries_in table)
+  pub type : root ≡ type_of term
+  pub types : given ≡ types_of term
 
 -- The answer, every byte of the output buffer, and that a fault changes nothing.
 pub record Types (program out out' work work' : List ℕ) (r : InferAnswer) : Type 0 where

@@ -12,8 +12,8 @@ ghost use Rattle.rules.specs.Run.{buffers_refusal};
 ghost use Rattle.refusals.specs.Reports.{Reports};
 ghost use Rattle.infer_call.specs.Answers.{infer_meant, refused_by, CanType, CanTypeWith, CanWriteFilled, Types, Inferred};
 
-use filling::Progress;
 use refusals::Refusal;
+use tables::Table;
 
 // The bytes of a table of 257 entries: one more than a table may have is made before it is refused.
 const TABLE: usize = 1542;
@@ -43,54 +43,46 @@ fn refusing(refusal: Refusal) -> InferAnswer
     }
 }
 
-// Writes a program of good layout with its types, which stand in `given`, and the table that has them.
+// Writes a program of good layout with its types, which are `given`, and the table that has them.
 fn write_filled(
     program: &[u8],
     output: &mut [u8],
     work: &mut [u8],
     table: &[u8],
     given: &[u16],
-    done: Progress,
+    root: u16,
 ) -> InferAnswer
-    requires { CanWriteFilled program.now output.old work.old table.now given.now done }
+    requires { CanWriteFilled program.now output.old work.old table.now given.now root }
     ensures { Types program.now output.old output.new work.old work.new result }
 {
     let parts = parts::parts_of(program);
-    let last = records::record_count(parts.records) as usize;
-    let filled = 6 * (done.types as usize);
-    let written = retyping::write_typed(
-        parts.records,
-        &given[..last],
-        &table[..filled],
-        work,
-        output,
-    );
+    let written = retyping::write_typed(parts.records, given, table, work, output);
     InferAnswer {
         number: 0,
         place: 0,
-        root_type: done.ty as u32,
+        root_type: root as u32,
         written: written as u32,
     }
 }
 
 // Types a program of good layout, and writes it where no record is faulty, in a work buffer of just the length that a run needs. The table grows in
-// `table`, and the types stand in `given`.
+// `bytes`, and the types stand in `given`.
 fn type_with(
     program: &[u8],
     output: &mut [u8],
     work: &mut [u8],
-    table: &mut [u8],
+    bytes: &mut [u8],
     given: &mut [u16],
 ) -> InferAnswer
-    requires { CanTypeWith program.now output.old work.old table.old given.old }
+    requires { CanTypeWith program.now output.old work.old bytes.old given.old }
     ensures { Types program.now output.old output.new work.old work.new result }
 {
     let parts = parts::parts_of(program);
-    let types = records::entry_count(parts.table);
     let last = records::record_count(parts.records) as usize;
-    writing::copy_bytes(parts.table, table, 0);
-    match filling::fill_all(parts.records, table, types, &mut given[..last]) {
-        Ok(done) => write_filled(program, output, work, table, given, done),
+    writing::copy_bytes(parts.table, bytes, 0);
+    let mut table = Table::of(bytes, records::entry_count(parts.table));
+    match filling::fill_all(parts.records, &mut table, &mut given[..last]) {
+        Ok(root) => write_filled(program, output, work, table.entries(), &given[..last], root),
         Err(refusal) => refusing(refusal),
     }
 }
