@@ -132,8 +132,7 @@ fn index_ok(kind: Kind, a: u16, depth: usize) -> bool
     (kind.use_of_a() != Use::Index) | ((a as usize) < depth)
 }
 
-// 11: the kind stands at a level where it may, and so does the binder that its index names. Two kinds are asked for by name: as a match on all of them it
-// costs a check of a program of matches 1.02 times its time.
+// 11: the kind stands at a level where it may, and so does the binder that its index names.
 fn level_ok(kind: Kind, level: u16, bound: u16) -> bool
     ensures { LevelTest kind level bound result }
 {
