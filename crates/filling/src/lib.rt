@@ -7,7 +7,7 @@ ghost use Rattle.std.specs.Prelude.{◌*◌, ◌≤◌, length};
 ghost use Rattle.records.specs.View.{records_in};
 ghost use Rattle.filling.specs.Filling.{CanSettle, Settles, CanFill, Fills, CanFillAll, FillsAll};
 
-use judging::Binders;
+use judging::{Binder, Binders};
 use kinds::Kind;
 use records::Record;
 use refusals::Refusal;
@@ -79,7 +79,7 @@ fn fill_in<const N: usize>(
     requires fits_a_stack { N ≤ 4096 }
     ensures { FillsAll (records_in records.now) table.old table.new given.new result }
 {
-    let mut slots = [0u32; N];
+    let mut slots = [Binder { level: 0, ty: 0 }; N];
     let mut filler = Filler {
         records,
         binders: Binders::none(&mut slots),

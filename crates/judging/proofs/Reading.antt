@@ -11,7 +11,9 @@ use Rattle.records.specs.View.{entries_in}
 use Rattle.records.specs.Meant.{entry_meant}
 use Rattle.records.specs.Places.{Within, IsEntry}
 use Rattle.records.proofs.Entries.{entries_length}
-use Rattle.judging.specs.Stack.{decoded, stack}
+use Rattle.judging.specs.declared.Binder.{Binder as Held}
+use Rattle.judging.specs.Stack.{binder_meant, stack}
+use Rattle.judging.specs.Stack.{no_binder as none}
 use Rattle.judging.specs.Tests.{IsBinder}
 use Rattle.judging.proofs.Stacking.{stack_length}
 
@@ -28,16 +30,16 @@ module _ (s : List ℕ) (n : ℕ) where
   entry_there z h = record { some = omega arith; most = omega (arith, entries_length s) }
 
 -- A binder of the stack, by its index.
-stack_at : (bs : List ℕ) (d i : ℕ) → i < d → binder (stack bs d) i ≡ decoded (get_or bs (d - 1 - i) 0)
+stack_at : (bs : List Held) (d i : ℕ) → i < d → binder (stack bs d) i ≡ binder_meant (get_or bs (d - 1 - i) none)
 unfolding stack
 stack_at bs zero i h = absurd (omega arith)
-stack_at bs (suc d) zero h = let e : d ≡ suc d - 1 - 0 = omega arith in ap (λ j. decoded (get_or bs j 0)) e
+stack_at bs (suc d) zero h = let e : d ≡ suc d - 1 - 0 = omega arith in ap (λ j. binder_meant (get_or bs j none)) e
 stack_at bs (suc d) (suc i) h =
     let e : d - 1 - i ≡ suc d - 1 - suc i = omega arith in
-    stack_at bs d i (omega arith) ∙ ap (λ j. decoded (get_or bs j 0)) e
+    stack_at bs d i (omega arith) ∙ ap (λ j. binder_meant (get_or bs j none)) e
 
-module _ (bs : List ℕ) (d i : ℕ) where
-  pub binder_read : i < d → IsBinder (stack bs d) i (record { level = get_or bs (d - 1 - i) 0 / 65536; ty = get_or bs (d - 1 - i) 0 % 65536 })
+module _ (bs : List Held) (d i : ℕ) where
+  pub binder_read : i < d → IsBinder (stack bs d) i (get_or bs (d - 1 - i) none)
   binder_read h = record { is = sym (stack_at bs d i h) }
 
   pub no_binder : d ≤ i → IsBinder (stack bs d) i (record { level = 2; ty = 0 })

@@ -1,18 +1,19 @@
--- The binders over a record as a stack in a list of numbers: the innermost, index 0, stands at depth - 1. The code's struct holds such a list, lent.
-use Rattle.std.specs.Prelude.{ℕ, zero, suc, ◌+◌, ◌-◌, ◌*◌, ◌/◌, ◌%◌, ◌≡◌, List, [], ◌∷◌, get_or, length, drop}
+-- The binders over a record as a stack in a list: the innermost, index 0, stands at depth - 1. The code's struct holds such a list, lent.
+use Rattle.std.specs.Prelude.{ℕ, zero, suc, ◌-◌, ◌≡◌, List, [], ◌∷◌, get_or, length, drop}
 use Rattle.rules.specs.Typing.{Binder, Env, bind}
+use Rattle.judging.specs.declared.Binder.{Binder as Held}
 use Rattle.judging.specs.declared.Binders.{Binders}
 
--- A binder as one number.
-abbrev pub encoded : ℕ → ℕ → ℕ
-encoded l t = 65536 * l + t
+-- The binder that the code's stands for; a place past the list has none.
+abbrev pub binder_meant : Held → Binder
+binder_meant b = bind b.level b.ty
 
-abbrev pub decoded : ℕ → Binder
-decoded x = bind (x / 65536) (x % 65536)
+abbrev pub no_binder : Held
+no_binder = record { level = 0; ty = 0 }
 
-unfoldable pub stack : List ℕ → ℕ → Env
+unfoldable pub stack : List Held → ℕ → Env
 stack bs zero = []
-stack bs (suc d) = decoded (get_or bs d 0) ∷ stack bs d
+stack bs (suc d) = binder_meant (get_or bs d no_binder) ∷ stack bs d
 
 -- The binders that the struct stands for, and for how many it has room.
 abbrev pub binders_of : Binders → Env

@@ -17,11 +17,9 @@ use Rattle.records.specs.Meant.{record_meant}
 use Rattle.refusals.specs.declared.reasons.Reason.{Reason}
 use Rattle.refusals.specs.Reports.{reason_number}
 use Rattle.judging.specs.declared.Binder.{Binder}
+use Rattle.judging.specs.Stack.{binder_meant}
 
--- The binder that the code's struct stands for.
-abbrev pub binder_meant : Binder → MeantBinder
-binder_meant b = bind b.level b.ty
-
+-- The fields of a record as the rules have them.
 abbrev pub fields_meant : Record → Fields
 fields_meant r = (record_meant r).fields
 

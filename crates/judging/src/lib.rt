@@ -63,17 +63,17 @@ fn is_code(table: &[u8], n: u16, c: u16) -> bool
     is_entry(table, n, Entry::code(c))
 }
 
-// The binders over a record, the innermost last: a stack in a lent array, each in one number.
+// The binders over a record, the innermost last: a stack in an array that is lent, as a call allocates nothing.
 #[derive(Drop)]
 pub struct Binders<'a> {
-    slots: &'a mut [u32],
+    slots: &'a mut [Binder],
     depth: usize,
 }
 
 impl<'a> Binders<'a> {
     // No binders.
     #[tactic(auto, using(crate::proofs::Stacking::none_bound))]
-    pub fn none(slots: &'a mut [u32]) -> Binders<'a>
+    pub fn none(slots: &'a mut [Binder]) -> Binders<'a>
         ensures none { binders_of result ≡ [] }
         ensures room { capacity result ≡ length slots.old }
     {
@@ -94,7 +94,7 @@ impl<'a> Binders<'a> {
         requires { length (binders_of self.old) < capacity self.old }
         ensures { Rebinds self.old self.new (bind level ty ∷ binders_of self.old) }
     {
-        self.slots[self.depth] = 65536 * (level as u32) + (ty as u32);
+        self.slots[self.depth] = Binder { level, ty };
         self.depth += 1;
     }
 
@@ -115,11 +115,7 @@ impl<'a> Binders<'a> {
     {
         let at = i as usize;
         if at < self.depth {
-            let x = self.slots[self.depth - 1 - at];
-            return Binder {
-                level: (x / 65536) as u16,
-                ty: (x % 65536) as u16,
-            };
+            return self.slots[self.depth - 1 - at];
         }
         Binder { level: 2, ty: 0 }
     }

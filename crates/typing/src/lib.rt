@@ -11,7 +11,7 @@ ghost use Rattle.typing.specs.Reading.{IsType};
 ghost use Rattle.typing.specs.Pushing.{PushesFirst, PushesSecond};
 ghost use Rattle.typing.specs.Walking.{CanReadChildren, JudgesRead, OfJudging, refusal_in, Packs, CanWalk, Walks, MakeTree};
 
-use judging::Binders;
+use judging::{Binder, Binders};
 use kinds::Kind;
 use records::Record;
 use refusals::{Reason, Refusal};
@@ -187,7 +187,7 @@ fn root_refusal<const N: usize>(table: &[u8], records: &[u8]) -> Result<(), Refu
     ensures { Reports result (walked (length (records_in records.now)) (entries_in table.now) (records_in records.now) [] 0 1) }
 {
     let count = records::record_count(records);
-    let mut slots = [0u32; N];
+    let mut slots = [Binder { level: 0, ty: 0 }; N];
     let mut binders = Binders::none(&mut slots);
     verdict_in(walk(table, records, &mut binders, 0, 1, count))
 }
