@@ -1,4 +1,4 @@
--- A bit that is 0 is set by adding its power of two, and no other bit changes: `inserting` for search. Assumes nothing.
+-- A bit that is 0 is set by adding its power of two, and no other bit changes. Assumes nothing.
 use Prim.Native.Nat.{ℕ, ◌+◌, ◌-◌, ◌*◌, ◌/◌, ◌%◌, ◌^◌, ◌≤◌, ◌<◌}
 use native.Mathlib.Omega.{arith}
 use native.Mathlib.Nat.{add-div_right, add-mul-div_right, add-mul-mod_self_right}
@@ -97,5 +97,3 @@ module _ (s : List ℕ) (k : ℕ) where
             | yes e ↦ rw (← e) (omega (arith, itself, was_free, is_same k))
             | no h ↦ omega (arith, another j h, is_other k j h)
           ]
-
-pub ruleset inserting = (is_there, comes_in)

@@ -1,14 +1,14 @@
--- Rule 6 by the set in which the parts of the earlier entries are noted: `noting` for search. Assumes nothing.
+-- Rule 6 by the set in which the parts of the earlier entries are noted. Assumes nothing.
 use Prim.Native.Nat.{ℕ, zero, suc, ◌+◌, ◌-◌, ◌*◌, ◌/◌, ◌%◌, ◌^◌, ◌≤◌, ◌<◌}
 use native.Mathlib.Omega.{arith}
 use native.Mathlib.Nat.{zero-div}
 use native.Mathlib.Decide.{ℕ_discrete}
-use mathlib.Core.Bool.{Bool, true, false, not, ◌&&◌, and-true, and-false}
+use mathlib.Core.Bool.{Bool, false, not, ◌&&◌, and-true, and-false}
 use mathlib.Core.List.{List}
 use mathlib.Core.Path.{◌≡◌, refl, sym, ap, ap₂, ◌∙◌}
 use lib.Dec.{eqb}
-use lib.ListN.{length, get_or, replicate}
-use borrow.Author.Tests.{eq-eqb, ne_eqb, not-true, not-false}
+use lib.ListN.{get_or, replicate}
+use borrow.Author.Tests.{eq-eqb, ne_eqb, not-false}
 use Rattle.rules.specs.Lists.{pick, total}
 use Rattle.rules.specs.Types.{Entry, Table, entry}
 use Rattle.rules.specs.Conditions.{same_entry, Holds, holds}
@@ -22,24 +22,23 @@ use Rattle.records.specs.Places.{IsEntry}
 use Rattle.fields.specs.BitSets.{member, Inserted}
 use Rattle.fields.specs.Noting.{parts, Noted, CanNote, Notes}
 
--- The kind of a good entry is known by its parts, which are below its number, and so below 256.
+-- The kind of a good entry is known by its parts, of which the second is below 256.
 abbrev kind_by : ℕ → ℕ → ℕ
 kind_by a b = pick (eqb b 0) (pick (eqb a 0) 1 3) 2
 
-record Known (n : ℕ) (x : Entry) : Type 0 where
+record Known (x : Entry) : Type 0 where
   kind_by_lem : x.kind ≡ kind_by x.a x.b
-  low_a : x.a < n
   low_b : x.b < 256
 
-known : (n : ℕ) (x : Entry) → 1 ≤ n → n ≤ 256 → Holds (kind_rule n x) → Known n x
-known n x some few h = kind_cases n x h
-    (λ e. rw e (record { kind_by_lem = refl; low_a = omega arith; low_b = omega arith }))
-    (λ k p q. let (s, (t, _)) = (rw k at h) in record { kind_by_lem = rw (ne_eqb x.b 0 (λ z. omega arith)) k; low_a = omega arith; low_b = omega arith })
-    (λ k p q. let (_, (s, _)) = (rw k at h) in record { kind_by_lem = rw (q, ne_eqb x.a 0 (λ z. omega arith)) k; low_a = omega arith; low_b = omega arith })
+known : (n : ℕ) (x : Entry) → n ≤ 256 → Holds (kind_rule n x) → Known x
+known n x few h = kind_cases n x h
+    (λ e. rw e (record { kind_by_lem = refl; low_b = omega arith }))
+    (λ k p q. let (s, (t, _)) = (rw k at h) in record { kind_by_lem = rw (ne_eqb x.b 0 (λ z. omega arith)) k; low_b = omega arith })
+    (λ k p q. let (_, (s, _)) = (rw k at h) in record { kind_by_lem = rw (q, ne_eqb x.a 0 (λ z. omega arith)) k; low_b = omega arith })
 
 -- So good entries are the same where their parts are.
-same_parts : (n m : ℕ) (x y : Entry) → Known n x → Known m y → same_entry x y ≡ eqb (parts x) (parts y)
-same_parts n m x y p q = elim (ℕ_discrete (parts x) (parts y)) [
+same_parts : (x y : Entry) → Known x → Known y → same_entry x y ≡ eqb (parts x) (parts y)
+same_parts x y p q = elim (ℕ_discrete (parts x) (parts y)) [
   | yes e ↦
       let ea : x.a ≡ y.a = omega arith in
       let eb : x.b ≡ y.b = omega arith in
@@ -69,18 +68,12 @@ module _ (types : Table) (seen : List ℕ) (n : ℕ) (c : CanNote types seen n) 
   alike_counted : Holds (kind_rule n (entry types n)) → alike types n ≡ member seen (parts (entry types n))
   alike_counted h =
       total_ext _ _ 1 (n - 1) (λ m i j. ap (λ b. pick {A = ℕ} b 1 0)
-      (same_parts m n (entry types m) (entry types n) (known m (entry types m) i (omega (arith, c.few)) (c.noted.kinds m i (omega arith))) (known n (entry types n) c.within.some c.few h)))
+      (same_parts (entry types m) (entry types n) (known m (entry types m) (omega (arith, c.few)) (c.noted.kinds m i (omega arith))) (known n (entry types n) c.few h)))
       ∙ sym (c.noted.counted (parts (entry types n)))
 
   module _ (e : Read) (i : IsEntry types n e) (b : Bool) (t : b ≡ holds (kind_rule n (entry_meant e))) where
     kind_told : b ≡ holds (kind_rule n (entry types n))
     kind_told = t ∙ ap (λ x. holds (kind_rule n x)) i.is
-
-    pub bad_kind : (after : List ℕ) → not b ≡ true → Notes types after n false
-    bad_kind after k = record {
-      told = sym (and-false (eqb (alike types n) 0)) ∙ ap (λ x. eqb (alike types n) 0 && x) (sym (not-true b k) ∙ kind_told);
-      noted = λ e. let z : ◌≡◌ {A = ℕ} 0 1 = cc in absurd (omega arith);
-    }
 
     module _ (k : not b ≡ false) where
       good : Holds (kind_rule n (entry types n))
@@ -88,9 +81,6 @@ module _ (types : Table) (seen : List ℕ) (n : ℕ) (c : CanNote types seen n) 
 
       same_number : 256 * e.a + e.b ≡ parts (entry types n)
       same_number = ap parts i.is
-
-      pub has_room : 256 * e.a + e.b < 64 * length seen
-      has_room = let q = known n (entry types n) c.within.some c.few good in omega (arith, same_number, q.low_a, q.low_b, c.room)
 
       pub note_told : (after : List ℕ) (r : Bool) → Inserted seen after (256 * e.a + e.b) r → Notes types after n r
       note_told after r s = record {
@@ -109,5 +99,3 @@ module _ (types : Table) (seen : List ℕ) (n : ℕ) (c : CanNote types seen n) 
 pub noted_none : (types : Table) (words : ℕ) (seen : List ℕ) → seen ≡ replicate words 0 → Noted types seen 0
 unfolding total member
 noted_none types words seen e = record { kinds = λ m p q. absurd (omega arith); counted = λ k. rw (e, zeros words (k / 64)) (ap (λ x. x % 2) (zero-div (2 ^ (k % 64)))) }
-
-pub ruleset noting = (bad_kind, has_room, note_told)

@@ -82,6 +82,7 @@ fn pairs_refusal(table: &[u8]) -> Result<(), Refusal>
 }
 
 // Puts k into a set of numbers, and says whether it was not in it.
+#[tactic(auto, using(crate::proofs::BitLaws::is_there, crate::proofs::BitLaws::sum_fits))]
 fn insert(set: &mut [u64], k: usize) -> bool
     requires { k < 64 * length set.old }
     ensures { Inserted set.old set.new k result }

@@ -118,6 +118,7 @@ fn entry_at(s: &[u8], x: usize) -> Entry
 }
 
 // Entry `i`, counted from 0.
+#[tactic(auto, using(crate::proofs::Entries::entries_read))]
 pub fn get_entry(s: &[u8], i: usize) -> Entry
     requires { i < length (entries_in s.now) }
     ensures { entry_meant result ≡ get_or (entries_in s.now) i no_entry }
@@ -160,6 +161,7 @@ fn record_at(s: &[u8], x: usize) -> Record
 }
 
 // Record `i`, counted from 0.
+#[tactic(auto, using(crate::proofs::Records::records_read))]
 pub fn get(s: &[u8], i: usize) -> Record
     requires { i < length (records_in s.now) }
     ensures { record_meant result ≡ get_or (records_in s.now) i no_record }

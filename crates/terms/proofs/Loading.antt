@@ -161,4 +161,4 @@ module _ (program : List Record) (n left : ℕ) (rs : List Record) (from : ℕ) 
               enough = l.enough;
             }
 
-pub ruleset loading = (load_root, load_left, load_left_falls, load_starts, load_marks, load_ends, load_place_fits, load_child, load_reads, load_falls, load_goes_on)
+pub ruleset loading = (load_root, load_left_falls, load_starts, load_marks, load_ends, load_place_fits, load_child, load_falls, load_goes_on)

@@ -21,6 +21,7 @@ pub struct Writer {
 }
 
 // The number that is `size` after `number`, as the link to a record of which there are `count`: 0 where there is none.
+#[tactic(auto, unfolding(crate::specs::Slots::link_to))]
 fn link(count: u16, number: u16, size: u16) -> u16
     requires { number + size < 65536 }
     ensures { result ≡ link_to count (number + size) }
