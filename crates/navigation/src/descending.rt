@@ -6,6 +6,7 @@ use terms::skip;
 use zipper::{Ahead, open_ahead};
 
 // Which of the children that stand from `first` on the record at `p` is in, counted from 0.
+#[tactic(auto, using(crate::proofs::Downward::towards))]
 fn child_towards(w: &[u8], first: usize, p: usize) -> u16
     requires { CanTellChild (records_in w.now) first p }
     ensures { TellsChild (records_in w.now) first p result }
@@ -23,6 +24,7 @@ fn child_towards(w: &[u8], first: usize, p: usize) -> u16
 }
 
 // Goes down to the tree whose root is at `p`, which stays at its place.
+#[tactic(auto, using(crate::proofs::Downward::deepening))]
 pub fn descend(w: &mut [u8], from: Ahead, p: usize) -> Ahead
     requires { CanDescend (records_in w.old) from p }
     ensures { Descends (records_in w.old) (records_in w.new) from p result }

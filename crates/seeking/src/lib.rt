@@ -9,6 +9,7 @@ use redexes::Found;
 use zipper::Ahead;
 
 // Searches the focus. Where it is done, its frames say what comes next.
+#[tactic(auto, using(crate::proofs::Searching::searching))]
 fn search(w: &mut [u8], a: Ahead) -> Turn
     requires { CanSeek (records_in w.old) a }
     ensures { Searches (records_in w.old) (records_in w.new) a result }

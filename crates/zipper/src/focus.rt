@@ -63,6 +63,7 @@ pub fn children_after(w: &[u8], z: Focus) -> u16
 }
 
 // Closes the innermost frame, whichever child its hole is: the frame's tree is the focus then.
+#[tactic(auto, using(crate::proofs::Closing::closing))]
 pub fn close(w: &mut [u8], z: Focus) -> Focus
     requires { CanClose (records_in w.old) z }
     ensures { Closes (records_in w.old) (records_in w.new) z result }
@@ -83,6 +84,7 @@ pub fn close(w: &mut [u8], z: Focus) -> Focus
 }
 
 // Closes every frame: the whole term is the focus then.
+#[tactic(auto, using(crate::proofs::Wholes::closing_all))]
 pub fn close_all(w: &mut [u8], z: Focus) -> Focus
     requires { CanCloseAll (records_in w.old) z }
     ensures { ClosesAll (records_in w.old) (records_in w.new) z result }

@@ -47,6 +47,7 @@ pub fn hole_of(z: Focus, level: u16) -> Ahead
 }
 
 // The hole that is left where the match is taken out whose code is the focus.
+#[tactic(auto, using(crate::proofs::Filling::dropping))]
 pub fn dropped(w: &[u8], z: Focus) -> Ahead
     requires { HasMatch (records_in w.now) z }
     ensures { Drops (records_in w.now) z result }
