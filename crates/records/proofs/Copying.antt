@@ -5,7 +5,7 @@ use mathlib.Core.Path.{◌≡◌, sym, ap, subst, ◌∙◌}
 use mathlib.Core.List.{List, ◌++◌, append_assoc}
 use lib.ListN.{length, get_or, take, drop, length-drop}
 use lib.Seq.{paste}
-use Rattle.rules.specs.Format.{Record, record_of, record_bytes, no_record}
+use Rattle.rules.specs.Format.{record_of, record_bytes, no_record}
 use Rattle.rules.proofs.Bytes.{RecordFits}
 use Rattle.records.specs.Overwritten.{overwritten}
 use Rattle.records.specs.View.{records_in, RecordPut}
