@@ -44,7 +44,7 @@ impl Kind {
         }
     }
 
-    // The same of a number that a kind has, so that nothing is compared.
+    // The same of a number that a kind has, as a tree's root or a frame's record: what is left of the comparison is the arm that is never taken.
     pub fn known(number: u16) -> Kind
         requires { IsKind number }
         ensures { kind_meant result ≡ kind_of number }

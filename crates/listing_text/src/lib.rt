@@ -58,7 +58,7 @@ impl Text<'_> {
         self.put(b"\n");
     }
 
-    // The word of an ending.
+    // The word of an ending, which is told by its number, as the answer for C has it.
     fn put_ending(&mut self, ending: u32)
         requires { HasRoom self.old (ending_word ending) }
         ensures { Takes self.old (ending_word ending) self.new }

@@ -5,7 +5,7 @@ ghost use Rattle.navigation.specs.Descending.{CanTellChild, TellsChild, CanDesce
 use terms::skip;
 use zipper::{Ahead, open_ahead};
 
-// Which of the children that stand from `first` on the record at `p` is in, counted from 0.
+// Which of the children that stand from `first` on the record at `p` is in, counted from 0. The trees are followed, and no bound of their number is known here.
 #[tactic(auto, using(crate::proofs::Downward::towards))]
 fn child_towards(w: &[u8], first: usize, p: usize) -> u16
     requires { CanTellChild (records_in w.now) first p }

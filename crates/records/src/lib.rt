@@ -12,7 +12,7 @@ ghost use Rattle.records.specs.View.{entries_in, records_in, EntryPut, RecordPut
 ghost use Rattle.records.specs.Meant.{entry_meant, record_meant};
 ghost use Rattle.records.specs.Places.{Within, IsEntry, IsRecord, InChain, Follows};
 
-// A record of the program form.
+// A record of the program form. Its kind is a number still, which may be any: the bytes of a program are any.
 #[derive(Clone, Copy)]
 pub struct Record {
     pub kind: u16,

@@ -10,7 +10,7 @@ ghost use Rattle.redexes.specs.Descent.{HasUnwritten, HasRewritten, LastStepped}
 use kinds::Kind;
 
 // What a search of a tree finds: nothing to step, and the place after the tree; or the place of the record that the rules rewrite. An enum of its
-// own, since neither answer is an error.
+// own: neither answer is an error, and the names of `ControlFlow` would say neither.
 #[derive(Clone, Copy)]
 pub enum Found {
     Done(usize),
