@@ -6,6 +6,7 @@ use mathlib.Core.Logic.{inl}
 use mathlib.Core.Path.{refl}
 use lib.Dec.{eqb}
 use lib.ListN.{get_or}
+use Rattle.std.specs.Prelude.{Some}
 use Rattle.rules.specs.Lists.{pick}
 use Rattle.rules.specs.Terms.{Term, size}
 use Rattle.rules.specs.FreeBounds.{free_bound}
@@ -14,7 +15,7 @@ use Rattle.rules.specs.Matching.{quoted, opened}
 use Rattle.rules.specs.Format.{Record}
 use Rattle.substitution.specs.declared.arguments.Argument.{Argument}
 use Rattle.substitution.specs.declared.arguments.Argument.TheVariants.{Tree, Quote, Opened}
-use Rattle.substitution.specs.Arguments.{place_of, described, StandsFor}
+use Rattle.substitution.specs.Arguments.{place_of, described, count_of, argument_of, StandsFor}
 use Rattle.contraction.specs.Plans.{Stands, AllStand, only_one}
 use Rattle.contraction.proofs.Places.{Before}
 
@@ -33,9 +34,10 @@ module _ {rs : List Record} {lo i : ℕ} {t : Term} (h : Before rs lo i t) (hi :
 
 module _ {rs : List Record} {lo hi : ℕ} where
   pub one_stands : {g : Argument} {t : Term} → Stands rs lo hi g t → AllStand rs lo hi (only_one g) (t ∷ [])
-  one_stands {g} {t} h = record { stand = record { some = omega arith; most = omega arith; count = refl; each = each }; reach = reach }
+  unfolding count_of argument_of
+  one_stands {g} {t} h = record { stand = record { count = refl; each = each }; reach = reach }
     where
-      each : (j : ℕ) (z : Term) → j < 1 → StandsFor rs lo hi (pick (eqb j 0) g g) (get_or (t ∷ []) j z)
+      each : (j : ℕ) (z : Term) → j < 1 → StandsFor rs lo hi g (get_or (t ∷ []) j z)
       each zero z l = h.stands
       each (suc j) z l = absurd (omega arith)
 
@@ -43,8 +45,9 @@ module _ {rs : List Record} {lo hi : ℕ} where
       reach zero z l = omega (arith, h.low)
       reach (suc j) z l = absurd (omega arith)
 
-  pub two_stand : {g g' : Argument} {t u : Term} → Stands rs lo hi g t → Stands rs lo hi g' u → AllStand rs lo hi (record { count = 2; first = g; second = g' }) (t ∷ u ∷ [])
-  two_stand {g} {g'} {t} {u} h h' = record { stand = record { some = omega arith; most = omega arith; count = refl; each = each }; reach = reach }
+  pub two_stand : {g g' : Argument} {t u : Term} → Stands rs lo hi g t → Stands rs lo hi g' u → AllStand rs lo hi (record { first = g; second = Some g' }) (t ∷ u ∷ [])
+  unfolding count_of argument_of
+  two_stand {g} {g'} {t} {u} h h' = record { stand = record { count = refl; each = each }; reach = reach }
     where
       each : (j : ℕ) (z : Term) → j < 2 → StandsFor rs lo hi (pick (eqb j 0) g g') (get_or (t ∷ u ∷ []) j z)
       each zero z l = h.stands

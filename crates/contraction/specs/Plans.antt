@@ -1,5 +1,5 @@
 -- What a plan says: what a redex becomes, by the places of trees. The records from lo on and before hi are free, and no tree is read there.
-use Rattle.std.specs.Prelude.{ℕ, ◌+◌, ◌≤◌, List, [], ◌∷◌, ◌⊎◌, length}
+use Rattle.std.specs.Prelude.{ℕ, ◌+◌, ◌≤◌, List, [], ◌∷◌, ◌⊎◌, None, length}
 use Rattle.rules.specs.Terms.{Term, size}
 use Rattle.rules.specs.Indices.{replaced, gave_way}
 use Rattle.rules.specs.Format.{Record}
@@ -22,9 +22,9 @@ pub record Stands (rs : List Record) (lo hi : ℕ) (g : Argument) (t : Term) : T
 abbrev pub AllStand : List Record → ℕ → ℕ → Arguments → List Term → Type 0
 AllStand rs lo hi g ts = Given rs lo hi g ts 8192
 
--- The same argument for one variable.
+-- One argument, for one variable.
 abbrev pub only_one : Argument → Arguments
-only_one g = record { count = 1; first = g; second = g }
+only_one g = record { first = g; second = None }
 
 -- A tree of n records at i is before lo, or from hi on and before `end`.
 abbrev pub Clear : ℕ → ℕ → ℕ → ℕ → ℕ → Type 0

@@ -25,9 +25,8 @@ pub fn body_with_one(w: &[u8], at: usize, g: Argument) -> Plan
     ensures { PlansBody (records_in w.now) at (only_one g) result }
 {
     let one = Arguments {
-        count: 1,
         first: g,
-        second: g,
+        second: None,
     };
     body_with(w, at, one)
 }

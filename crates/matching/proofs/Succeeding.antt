@@ -8,6 +8,7 @@ use mathlib.Core.Option.{none, some}
 use mathlib.Core.Path.{◌≡◌, refl, ap, subst, ◌∙◌}
 use lib.Dec.{eqb}
 use lib.ListN.{length, get_or}
+use Rattle.std.specs.Prelude.{Some}
 use Rattle.rules.specs.Lists.{pick}
 use Rattle.rules.specs.Kinds.{number, function, fix, application, Match, kind_of}
 use Rattle.rules.specs.Terms.{Term, leaf, type_of, number_held, size}
@@ -73,16 +74,16 @@ module _ (types : Table) (rs : List Record) (p hi : ℕ) (x : Read) (ex : record
   }
 
   pub success_of_application : (a : ℕ) (q : Plan) → k ≡ MatchApplication → Skips rs (p + 3) a
-      → PlansBody rs hi (record { count = 2; first = Quote a x.b; second = Quote (p + 3) x.a }) q → PlansSuccess types rs p hi q
+      → PlansBody rs hi (record { first = Quote a x.b; second = Some (Quote (p + 3) x.a) }) q → PlansSuccess types rs p hi q
   unfolding matched
   success_of_application a q w sk plans = bound_by MatchApplication _ q w plans go
     where
-      go : (h : ℕ) → Takes MatchApplication (λ lo ts. AllStand rs lo h (record { count = 2; first = Quote a x.b; second = Quote (p + 3) x.a }) ts)
+      go : (h : ℕ) → Takes MatchApplication (λ lo ts. AllStand rs lo h (record { first = Quote a x.b; second = Some (Quote (p + 3) x.a) }) ts)
       go h lo j c (an_application f t u) code ts e =
           let first = first_of_two rs lo (p + 2) (p + 3) application f t u code (omega arith) in
           let y : a ≡ p + 3 + size t = sk.is t first.there in
           let second = second_of_two rs lo (p + 2) a application f t u code (omega arith) in
-          subst (AllStand rs lo h (record { count = 2; first = Quote a x.b; second = Quote (p + 3) x.a }))
+          subst (AllStand rs lo h (record { first = Quote a x.b; second = Some (Quote (p + 3) x.a) }))
           (test_gave (eqb (type_of u) (part_a types x.b)) (quoted x.b u ∷ quoted x.a t ∷ []) ts e)
           (two_stand (quote_stands second h x.b) (quote_stands first h x.a))
 

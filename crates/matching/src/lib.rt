@@ -62,9 +62,8 @@ fn success(table: &[u8], w: &[u8], p: usize, s: usize) -> Plan
             let b = Argument::Quote(argument, r.b);
             let a = Argument::Quote(p + 3, r.a);
             let both = Arguments {
-                count: 2,
                 first: b,
-                second: a,
+                second: Some(a),
             };
             body_with(w, s, both)
         }

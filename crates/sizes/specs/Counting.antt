@@ -1,6 +1,6 @@
 -- What is counted before anything is copied: the size that a tree will have when variables of it have given way, and that of what an argument
 -- stands for.
-use Rattle.std.specs.Prelude.{ℕ, ◌+◌, ◌*◌, ◌<◌, ◌≤◌, List, Bool, ◌≡◌, T, eqb, leb}
+use Rattle.std.specs.Prelude.{ℕ, ◌+◌, ◌*◌, ◌<◌, ◌≤◌, List, Bool, false, ◌≡◌, T, eqb, leb}
 use Rattle.rules.specs.Lists.{pick}
 use Rattle.rules.specs.Terms.{Term, size}
 use Rattle.rules.specs.Indices.{replaced, names_removed, summed}
@@ -8,7 +8,7 @@ use Rattle.rules.specs.Format.{Record}
 use Rattle.terms.specs.Preorder.{At}
 use Rattle.substitution.specs.declared.arguments.Argument.{Argument}
 use Rattle.substitution.specs.declared.arguments.Arguments.{Arguments}
-use Rattle.substitution.specs.Arguments.{StandsFor, StandForAll}
+use Rattle.substitution.specs.Arguments.{count_of, argument_of, StandsFor, StandForAll}
 
 -- The size of a tree once each variable of the innermost of the m binders next to d has given way to `first` records, and one of another to `second`.
 abbrev pub weight : ℕ → ℕ → ℕ → ℕ → ℕ → ℕ
@@ -52,12 +52,12 @@ pub record CanFit (rs : List Record) (at : ℕ) (g : Arguments) : Type 0 where
   pub there : At rs at tree
   pub stand : StandForAll rs lo hi g terms
   pub few : size tree < 32767
-  pub small : (j : ℕ) (z : Term) (l : j < g.count) → size (stand.each j z l).tree < 32767
+  pub small : (j : ℕ) (z : Term) (l : j < count_of g) → size (stand.each j z l).tree < 32767
 
 -- n measures so what stands for index 1, or is 0 where one variable is replaced.
 pub record MeasuresSecond (rs : List Record) (g : Arguments) (exactly : Bool) (n : ℕ) : Type 0 where
-  pub there : 1 < g.count → Measures rs g.second exactly n
-  pub none : g.count ≤ 1 → n ≡ 0
+  pub there : 1 < count_of g → Measures rs (argument_of g false) exactly n
+  pub none : count_of g ≤ 1 → n ≡ 0
 
 -- b tells whether the tree at `at`, with its variables replaced, has at most `room` records.
 pub record TellsRoom (rs : List Record) (at : ℕ) (g : Arguments) (room : ℕ) (b : Bool) : Type 0 where

@@ -53,10 +53,9 @@ fn second_size(w: &[u8], at: usize, g: Arguments, exactly: bool) -> usize
     requires { CanFit (records_in w.now) at g }
     ensures { MeasuresSecond (records_in w.now) g exactly result }
 {
-    if 1 < g.count {
-        argument_size(w, g.second, exactly)
-    } else {
-        0
+    match g.second {
+        Some(second) => argument_size(w, second, exactly),
+        None => 0,
     }
 }
 
@@ -69,7 +68,7 @@ fn surely_fits(w: &[u8], at: usize, g: Arguments, room: usize) -> bool
     let first = argument_size(w, g.first, false);
     let second = second_size(w, at, g, false);
     tree_size(w, at) * first.max(second) <= room
-        || size_after(w, at, 0, g.count, first, second) <= room
+        || size_after(w, at, 0, g.count(), first, second) <= room
 }
 
 // Whether the tree at `at` has at most `room` records once its variables are replaced by what the arguments stand for. They are counted only where
@@ -83,5 +82,5 @@ pub fn replaced_fits(w: &[u8], at: usize, g: Arguments, room: usize) -> bool
     }
     let first = argument_size(w, g.first, true);
     let second = second_size(w, at, g, true);
-    size_after(w, at, 0, g.count, first, second) <= room
+    size_after(w, at, 0, g.count(), first, second) <= room
 }

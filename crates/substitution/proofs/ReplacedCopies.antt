@@ -32,7 +32,7 @@ use Rattle.substitution.specs.declared.arguments.Argument.{Argument}
 use Rattle.substitution.specs.declared.arguments.Argument.TheVariants.{Tree, Quote, Opened}
 use Rattle.substitution.specs.declared.arguments.Arguments.{Arguments}
 use Rattle.substitution.specs.declared.replacing.Copied.{Copied}
-use Rattle.substitution.specs.Arguments.{described}
+use Rattle.substitution.specs.Arguments.{described, count_of, argument_of}
 use Rattle.copies.specs.Roots.{moved_field}
 use Rattle.copies.specs.Copying.{CopyAt, CanCopy, BlockMoved, is_named, MovesRoot, PutsIndexed}
 use Rattle.substitution.specs.Making.{MakingAt, CanCopyArgument, CopiesArgument}
@@ -69,8 +69,6 @@ given_stays rs rs' lo hi b g ts s h =
     let q = h.stand in
     record {
       stand = record {
-        some = q.some;
-        most = q.most;
         count = q.count;
         each = λ j z l. let p = q.each j z l in record { tree = p.tree; there = tree_stays lo hi rs rs' _ p.tree s p.outside p.there; outside = p.outside; is = p.is };
       };
@@ -81,17 +79,17 @@ module _ (g : Arguments) where
   module _ (rs : List Record) (lo hi b : ℕ) (ts : List Term) (h : Given rs lo hi g ts b) where
     terms_low : All (λ t. free_bound t ≤ b) ts
     terms_low = each_all (λ t. free_bound t ≤ b) ts (λ j z l.
-        let k : j < g.count = omega (arith, h.stand.count) in
+        let k : j < count_of g = omega (arith, h.stand.count) in
         let s = h.stand.each j z k in
-        omega (arith, ap free_bound s.is, described_low (pick (eqb j 0) g.first g.second) s.tree, h.reach j z k))
+        omega (arith, ap free_bound s.is, described_low (argument_of g (eqb j 0)) s.tree, h.reach j z k))
 
-    replacing_steady : (d : ℕ) (f : Fields) → names_removed g.count d f.a ≡ false → (replacing ts).on_variable d f ≡ leaf variable (with_index f (lowered_index (length ts) d f.a))
+    replacing_steady : (d : ℕ) (f : Fields) → names_removed (count_of g) d f.a ≡ false → (replacing ts).on_variable d f ≡ leaf variable (with_index f (lowered_index (length ts) d f.a))
     replacing_steady d f e = ⊎_elim
         (λ l. replaced_bound ts d f l ∙ ap (λ i. leaf variable (with_index f i)) (lowered_stays f.a (length ts) d l))
         (λ l. replaced_beyond ts d f (omega (arith, h.stand.count)) ∙ ap (λ i. leaf variable (with_index f i)) (lowered_falls f.a (length ts) d (f.a - length ts) (omega arith) refl))
-        (unnamed g.count d f.a (rw e tt))
+        (unnamed (count_of g) d f.a (rw e tt))
 
-  pub replacing_sound : Sound (Replacing g) g.count (λ d. lowered_index g.count d)
+  pub replacing_sound : Sound (Replacing g) (count_of g) (λ d. lowered_index (count_of g) d)
   replacing_sound = record {
     low = λ rs lo hi b c h. rw h.change (replacing_low h.terms);
     index = λ rs lo hi b c h d. ap (λ q. q.on_index d) h.change ∙ ap (λ n. lowered_index n d) h.given.stand.count;
@@ -123,21 +121,21 @@ replaced_known rs src dst d g r e h = root_known rs src r e h.tree h.copy.there
 
 -- A variable that gives way.
 module _ (rs : List Record) (src dst d : ℕ) (g : Arguments) (r : Record) (e : r ≡ get_or rs src no_record) (l : d < r.next / 2) (kd : Kind) (u : kd ≡ kind_of r.kind) (k : ℕ) (o : k ≡ child_count kd)
-    (x : Bool) (i : x ≡ is_named k g.count d r.fields.a) (y : x ≡ true) where
+    (x : Bool) (i : x ≡ is_named k (count_of g) d r.fields.a) (y : x ≡ true) where
   record Use (t : Term) : Type 0 where
     fields : Fields
     is : t ≡ leaf variable fields
     index : r.fields.a ≡ fields.a
-    named_one : names_removed g.count d fields.a ≡ true
+    named_one : names_removed (count_of g) d fields.a ≡ true
     from : d ≤ fields.a
-    to : fields.a < d + g.count
+    to : fields.a < d + count_of g
 
   is_use : (t : Term) → At rs src t → Use t
-  is_use t h = told (rw (← i, y) at (read_spot rs src r e t h g.count d l k (o ∙ ap child_count u)))
+  is_use t h = told (rw (← i, y) at (read_spot rs src r e t h (count_of g) d l k (o ∙ ap child_count u)))
     where
-      told : Spot g.count d t true → Use t
+      told : Spot (count_of g) d t true → Use t
       told (named f p q) =
-          let (a, b) = names_within g.count d f.a q in
+          let (a, b) = names_within (count_of g) d f.a q in
           record { fields = f; is = p; index = ap (λ z. z.fields.a) (read_root rs src r e t h ∙ ap head p); named_one = q; from = a; to = b }
 
   module _ (lo hi b : ℕ) (c : Change) (t : Term) (s : Replacing g rs lo hi c b) (h : CopyAt c b rs lo hi src dst d t) where
@@ -158,12 +156,12 @@ module _ (rs : List Record) (src dst d : ℕ) (g : Arguments) (r : Record) (e : 
     unfolding raised
     size_same = ap size is_raised ∙ size_raised d 0 term_for
 
-    making : (q : Argument) → q ≡ pick (eqb r.fields.a d) g.first g.second → MakingAt rs lo hi q dst d term_for
+    making : (q : Argument) → q ≡ argument_of g (eqb r.fields.a d) → MakingAt rs lo hi q dst d term_for
     making q w =
         let f = h.fits in
-        let n : place < g.count = omega (arith, found.to, found.from) in
-        let v : q ≡ pick (eqb place 0) g.first g.second =
-        w ∙ ap (λ z. pick (eqb z d) g.first g.second) found.index ∙ ap (λ z. pick z g.first g.second) (sym (innermost d found.fields.a found.from)) in
+        let n : place < count_of g = omega (arith, found.to, found.from) in
+        let v : q ≡ argument_of g (eqb place 0) =
+        w ∙ ap (λ z. argument_of g (eqb z d)) found.index ∙ ap (argument_of g) (sym (innermost d found.fields.a found.from)) in
         rw v (record {
           stands = s.given.stand.each place (leaf variable found.fields) n;
           start = f.start;
@@ -173,7 +171,7 @@ module _ (rs : List Record) (src dst d : ℕ) (g : Arguments) (r : Record) (e : 
           low = omega (arith, f.low, s.given.reach place (leaf variable found.fields) n);
         })
 
-  module _ (q : Argument) (w : q ≡ pick (eqb r.fields.a d) g.first g.second) where
+  module _ (q : Argument) (w : q ≡ argument_of g (eqb r.fields.a d)) where
     pub use_can : CanCopy (Replacing g) rs src dst d → CanCopyArgument rs q dst d
     use_can h = record { lo = h.lo; hi = h.hi; term = term_for _ _ _ _ _ h.meant h.copy; makes = making _ _ _ _ _ h.meant h.copy q w }
 
@@ -184,42 +182,42 @@ module _ (rs : List Record) (src dst d : ℕ) (g : Arguments) (r : Record) (e : 
       counts = record {
         is = λ lo hi b c t s h.
             let u = is_use t h.there in
-            sym (ap (gave_way g.count d) u.is ∙ ap (λ z. pick {A = ℕ} z 1 0) u.named_one);
+            sym (ap (gave_way (count_of g) d) u.is ∙ ap (λ z. pick {A = ℕ} z 1 0) u.named_one);
       };
     }
 
 -- A block: none gives way.
 pub block_fits : (rs : List Record) (src dst d : ℕ) (g : Arguments) → CanCopy (Replacing g) rs src dst d → (r : Record) → r ≡ get_or rs src no_record → r.next / 2 ≤ d → (n : ℕ) → n ≡ r.first → CanMove rs src dst n
-block_fits rs src dst d g h r e l n q = rw q (block_can (Replacing g) g.count _ (replacing_sound g) rs src dst d r e l h)
+block_fits rs src dst d g h r e l n q = rw q (block_can (Replacing g) (count_of g) _ (replacing_sound g) rs src dst d r e l h)
 
 pub block_replaces : (rs : List Record) (src dst d : ℕ) (g : Arguments) (r : Record) → r ≡ get_or rs src no_record → r.next / 2 ≤ d → (rs' : List Record) (o : ℕ) → BlockMoved rs rs' src dst r.first o
     → Replaces rs rs' src dst d g (record { end = o; replaced = 0 })
 block_replaces rs src dst d g r e l rs' o w = record {
-  copies = block_does (Replacing g) g.count _ (replacing_sound g) rs src dst d r e l rs' o w;
-  counts = record { is = λ lo hi b c t s h. sym (block_gives_none g.count d t (omega (arith, read_bound rs src r e t h.there))) };
+  copies = block_does (Replacing g) (count_of g) _ (replacing_sound g) rs src dst d r e l rs' o w;
+  counts = record { is = λ lo hi b c t s h. sym (block_gives_none (count_of g) d t (omega (arith, read_bound rs src r e t h.there))) };
 }
 
 -- The loop over the children: of the n children of the root at src, child j is the next to be copied, from `at` to `to`, and z variables gave way
 -- in those before it.
 pub record ReplacingChildren (g : Arguments) (rs₁ : List Record) (src dst d : ℕ) (k : Kind) (n : ℕ) (rs : List Record) (at to z j : ℕ) : Type 0 where
   count : n ≡ child_count k
-  copying : Copying (Replacing g) g.count rs₁ src dst d k rs at to j
-  adding : Adding (RootOf (Replacing g) g.count rs₁ src dst d k) (gives g.count) 0 d j z
+  copying : Copying (Replacing g) (count_of g) rs₁ src dst d k rs at to j
+  adding : Adding (RootOf (Replacing g) (count_of g) rs₁ src dst d k) (gives (count_of g)) 0 d j z
 
 -- A root that stays is written with the index a.
 module _ (rs : List Record) (src dst d : ℕ) (g : Arguments) (r : Record) (e : r ≡ get_or rs src no_record) (l : d < r.next / 2) (k : Kind) (u : k ≡ kind_of r.kind) (n : ℕ) (o : n ≡ child_count k)
-    (x : Bool) (i : x ≡ is_named n g.count d r.fields.a) (y : x ≡ false) (a : ℕ) (m : a ≡ moved_field (lowered_index g.count d) k r.fields.a) (rs₁ : List Record) (w : PutsIndexed rs rs₁ dst r a) where
+    (x : Bool) (i : x ≡ is_named n (count_of g) d r.fields.a) (y : x ≡ false) (a : ℕ) (m : a ≡ moved_field (lowered_index (count_of g) d) k r.fields.a) (rs₁ : List Record) (w : PutsIndexed rs rs₁ dst r a) where
   count_read : n ≡ child_count (kind_of r.kind)
   count_read = o ∙ ap child_count u
 
-  moves : MovesRoot (lowered_index g.count d) rs rs₁ dst r
-  moves = root_moves (lowered_index g.count d) rs rs₁ dst r k u a m w
+  moves : MovesRoot (lowered_index (count_of g) d) rs rs₁ dst r
+  moves = root_moves (lowered_index (count_of g) d) rs rs₁ dst r k u a m w
 
   pub children_start : CanCopy (Replacing g) rs src dst d → ReplacingChildren g rs₁ src dst d k n rs₁ (src + 1) (dst + 1) 0 0
   children_start h = rw u (record {
     count = count_read;
-    copying = copy_starts (Replacing g) g.count _ (replacing_sound g) rs src dst d r e l n count_read x i y rs₁ moves h;
-    adding = adding_starts _ (gives g.count) 0 d (λ t v f q. ap (λ z. pick {A = ℕ} z 1 0) (v.rooted.unnamed f q));
+    copying = copy_starts (Replacing g) (count_of g) _ (replacing_sound g) rs src dst d r e l n count_read x i y rs₁ moves h;
+    adding = adding_starts _ (gives (count_of g)) 0 d (λ t v f q. ap (λ z. pick {A = ℕ} z 1 0) (v.rooted.unnamed f q));
   })
 
   -- Once its children are copied, the copy is whole, and all that gave way are counted.
@@ -229,38 +227,38 @@ module _ (rs : List Record) (src dst d : ℕ) (g : Arguments) (r : Record) (e : 
   root_replaces rs₂ at to z j p q rs₃ end s =
       let p′ = rw u at p in
       record {
-        copies = copy_ends (Replacing g) g.count _ (replacing_sound g) rs src dst d r e l n count_read x i y rs₁ moves rs₂ at to j p′.copying q rs₃ end s;
+        copies = copy_ends (Replacing g) (count_of g) _ (replacing_sound g) rs src dst d r e l n count_read x i y rs₁ moves rs₂ at to j p′.copying q rs₃ end s;
         counts = record {
           is = λ lo hi b c t s h.
-              let v = root_of (Replacing g) g.count (λ d. lowered_index g.count d) (replacing_sound g) rs src dst d r e l n count_read x i y rs₁ moves lo hi b c t s h in
-              adding_ends (RootOf (Replacing g) g.count rs₁ src dst d (kind_of r.kind)) (gives g.count) 0 d j z p′.adding t v (omega (arith, count_read, ap child_count v.rooted.kind));
+              let v = root_of (Replacing g) (count_of g) (λ d. lowered_index (count_of g) d) (replacing_sound g) rs src dst d r e l n count_read x i y rs₁ moves lo hi b c t s h in
+              adding_ends (RootOf (Replacing g) (count_of g) rs₁ src dst d (kind_of r.kind)) (gives (count_of g)) 0 d j z p′.adding t v (omega (arith, count_read, ap child_count v.rooted.kind));
         };
       }
 
 module _ (g : Arguments) (rs₁ : List Record) (src dst d : ℕ) (k : Kind) (n : ℕ) (rs : List Record) (at to z j : ℕ) (p : ReplacingChildren g rs₁ src dst d k n rs at to z j) where
   -- All children are copied.
   pub children_copied : n ≤ j → HasRooted rs dst
-  children_copied l = copy_rooted (Replacing g) g.count _ (replacing_sound g) rs₁ src dst d k rs at to j n p.copying p.count l
+  children_copied l = copy_rooted (Replacing g) (count_of g) _ (replacing_sound g) rs₁ src dst d k rs at to j n p.copying p.count l
 
   -- One is left.
   module _ (l : j < n) where
     pub child_tree : HasTree rs at
-    child_tree = turn_tree (Replacing g) g.count _ (replacing_sound g) rs₁ src dst d k rs at to j n p.copying p.count l
+    child_tree = turn_tree (Replacing g) (count_of g) _ (replacing_sound g) rs₁ src dst d k rs at to j n p.copying p.count l
 
     module _ (u : ℕ) (b : u ≡ binders_over k j) where
       pub child_can : (g' : Arguments) (e : ℕ) → g' ≡ g → e ≡ d + u → CanCopy (Replacing g') rs at to e
-      child_can g' e x y = rw (x, y) (turn_can (Replacing g) g.count _ (replacing_sound g) rs₁ src dst d k rs at to j n p.copying p.count l u b)
+      child_can g' e x y = rw (x, y) (turn_can (Replacing g) (count_of g) _ (replacing_sound g) rs₁ src dst d k rs at to j n p.copying p.count l u b)
 
       -- Its copy, in which as many gave way as its variables say.
       module _ (rs' : List Record) (r : Copied) (w : Replaces rs rs' at to (d + u) g r) where
-        counted : (t : Term) → RootOf (Replacing g) g.count rs₁ src dst d k t
-            → (j < child_count (root_kind t)) × (r.replaced ≡ summed (gives g.count) 0 (d + binders_over (root_kind t) j) (child t j))
+        counted : (t : Term) → RootOf (Replacing g) (count_of g) rs₁ src dst d k t
+            → (j < child_count (root_kind t)) × (r.replaced ≡ summed (gives (count_of g)) 0 (d + binders_over (root_kind t) j) (child t j))
         unfolding gave_way
         counted t v =
-            let o = over (Replacing g) g.count _ (replacing_sound g) rs₁ src dst d k rs at to j n p.copying p.count l u b t v in
-            let q = next_copy (Replacing g) g.count _ (replacing_sound g) rs₁ src dst d k rs at to j n p.copying p.count l t v in
-            let m = next_meant (Replacing g) g.count _ (replacing_sound g) rs₁ src dst d k rs at to j n p.copying p.count l t v in (
-              next_one (Replacing g) g.count _ (replacing_sound g) rs₁ src dst d k rs at to j n p.copying p.count l t v,
+            let o = over (Replacing g) (count_of g) _ (replacing_sound g) rs₁ src dst d k rs at to j n p.copying p.count l u b t v in
+            let q = next_copy (Replacing g) (count_of g) _ (replacing_sound g) rs₁ src dst d k rs at to j n p.copying p.count l t v in
+            let m = next_meant (Replacing g) (count_of g) _ (replacing_sound g) rs₁ src dst d k rs at to j n p.copying p.count l t v in (
+              next_one (Replacing g) (count_of g) _ (replacing_sound g) rs₁ src dst d k rs at to j n p.copying p.count l t v,
               rw o at (w.counts.is v.lo v.hi v.reach v.change (child t j) m (rw o q)),
             )
 
@@ -268,7 +266,7 @@ module _ (g : Arguments) (rs₁ : List Record) (src dst d : ℕ) (k : Kind) (n :
         unfolding gave_way
         replaced_fits =
             let v = p.copying in
-            omega (arith, adding_most _ (gives g.count) 0 d j z p.adding r.replaced counted v.tree v.of, gave_most g.count d v.tree, v.of.rooted.fits.low)
+            omega (arith, adding_most _ (gives (count_of g)) 0 d j z p.adding r.replaced counted v.tree v.of, gave_most (count_of g) d v.tree, v.of.rooted.fits.low)
 
 -- The child is copied, and the one after it is next.
 pub child_replaced : (g : Arguments) (rs rs' : List Record) (at to d u : ℕ) (r : Copied) → Replaces rs rs' at to (d + u) g r → (rs₁ : List Record) (src dst : ℕ) (k : Kind) (n z j : ℕ)
@@ -276,14 +274,14 @@ pub child_replaced : (g : Arguments) (rs rs' : List Record) (at to d u : ℕ) (r
     → ReplacingChildren g rs₁ src dst d k n rs' end to' z' (j + 1)
 child_replaced g rs rs' at to d u r w rs₁ src dst k n z j p end sk l b to' z' x y = rw (x, y) (record {
   count = p.count;
-  copying = turn_next (Replacing g) g.count _ (replacing_sound g) rs₁ src dst d k rs at to j n p.copying p.count l u b end sk rs' r.end w.copies;
-  adding = adding_next _ (gives g.count) 0 d j z p.adding r.replaced (counted g rs₁ src dst d k n rs at to z j p l u b rs' r w);
+  copying = turn_next (Replacing g) (count_of g) _ (replacing_sound g) rs₁ src dst d k rs at to j n p.copying p.count l u b end sk rs' r.end w.copies;
+  adding = adding_next _ (gives (count_of g)) 0 d j z p.adding r.replaced (counted g rs₁ src dst d k n rs at to z j p l u b rs' r w);
 })
 
 -- What falls is the number of records from the tree on.
 pub child_falls : (g : Arguments) (s₁ : List ℕ) (src dst d : ℕ) (k : Kind) (n : ℕ) (s : List ℕ) (at to z j : ℕ) → ReplacingChildren g (records_in s₁) src dst d k n (records_in s) at to z j → j < n
     → (s₀ : List ℕ) → length s₁ ≡ length s₀ → (q : ℕ) → length (records_in s₀) - src ≡ q → length (records_in s) - at < q
 child_falls g s₁ src dst d k n s at to z j p l s₀ y q o =
-    copy_falls (Replacing g) g.count _ (replacing_sound g) s₁ src dst d k s at to j n p.copying p.count l s₀ y q o
+    copy_falls (Replacing g) (count_of g) _ (replacing_sound g) s₁ src dst d k s at to j n p.copying p.count l s₀ y q o
 
 pub ruleset replacing_laws = (copy_in, copy_from_fits, block_fits, block_replaces, child_tree, child_can, child_falls, replaced_fits, child_replaced, children_copied)

@@ -1,5 +1,5 @@
 -- Arguments: which term each stands for, and where its tree is read.
-use Rattle.std.specs.Prelude.{ℕ, ◌<◌, ◌≤◌, List, ◌≡◌, length, get_or, eqb}
+use Rattle.std.specs.Prelude.{ℕ, ◌<◌, List, Bool, ◌≡◌, None, Some, length, get_or, eqb}
 use Rattle.rules.specs.Lists.{pick}
 use Rattle.rules.specs.Kinds.{function}
 use Rattle.rules.specs.Terms.{Fields, Term, unary, size}
@@ -29,6 +29,14 @@ described (Tree at) u = u
 described (Quote at ty) u = quoted ty u
 described (Opened at ty a b) u = unary function (function_fields ty a) (quoted b (wrapped a u))
 
+-- How many arguments there are.
+unfoldable pub count_of : Arguments → ℕ
+count_of g = elim g.second [ None ↦ 1 | Some second ↦ 2 ]
+
+-- The argument for the variable of the innermost binder, or for the other one.
+unfoldable pub argument_of : Arguments → Bool → Argument
+argument_of g inner = elim g.second [ None ↦ g.first | Some second ↦ pick inner g.first second ]
+
 -- The argument stands for t: a tree is at its place, outside of the records from lo on and before hi, which are free for the copy.
 pub record StandsFor (rs : List Record) (lo hi : ℕ) (g : Argument) (t : Term) : Type 0 where
   pub tree : Term
@@ -38,7 +46,5 @@ pub record StandsFor (rs : List Record) (lo hi : ℕ) (g : Argument) (t : Term) 
 
 -- The arguments stand for ts, one or two: the first for index 0.
 pub record StandForAll (rs : List Record) (lo hi : ℕ) (g : Arguments) (ts : List Term) : Type 0 where
-  pub some : 1 ≤ g.count
-  pub most : g.count ≤ 2
-  pub count : length ts ≡ g.count
-  pub each : (j : ℕ) (z : Term) → j < g.count → StandsFor rs lo hi (pick (eqb j 0) g.first g.second) (get_or ts j z)
+  pub count : length ts ≡ count_of g
+  pub each : (j : ℕ) (z : Term) → j < count_of g → StandsFor rs lo hi (argument_of g (eqb j 0)) (get_or ts j z)

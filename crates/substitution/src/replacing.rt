@@ -61,12 +61,11 @@ pub fn copy_replaced(w: &mut [u8], src: usize, dst: usize, d: u16, g: Arguments)
     }
     let kind = Kind::known(r.kind);
     let children = kind.children();
-    if gives_way(children, r.a, d, g.count) {
-        let chosen = chosen(g.first, g.second, r.a == d);
-        let end = copy_argument(w, chosen, dst, d);
+    if gives_way(children, r.a, d, g.count()) {
+        let end = copy_argument(w, g.of(r.a == d), dst, d);
         return Copied { end, replaced: 1 };
     }
-    let a = lowered_field(kind, r.a, g.count, d);
+    let a = lowered_field(kind, r.a, g.count(), d);
     put_indexed(w, dst, r, a);
     let mut at = src + 1;
     let mut to = dst + 1;

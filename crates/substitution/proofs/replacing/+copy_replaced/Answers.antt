@@ -19,12 +19,12 @@ known-kind-requires t c = replaced_known _ _ _ _ _ _ c.get-r.ensures c.requires
 
 pub copy_argument-end-requires : goal.copy_argument-end-requires
 copy_argument-end-requires t c =
-    use_can _ _ _ _ _ _ c.get-r.ensures (omega arith) _ c.known-kind.ensures _ c.children-children.ensures _ c.gives_way.ensures c.if-gives_way.true
+    use_can _ _ _ _ _ _ c.get-r.ensures (omega arith) _ c.known-kind.ensures _ c.children-children.ensures _ (rw c.count.ensures at c.gives_way.ensures) c.if-gives_way.true
     _ (search rules) c.requires
 
 pub returns-then-gives_way : goal.returns-then-gives_way
 returns-then-gives_way t c =
-    use_replaces _ _ _ _ _ _ c.get-r.ensures (omega arith) _ c.known-kind.ensures _ c.children-children.ensures _ c.gives_way.ensures
+    use_replaces _ _ _ _ _ _ c.get-r.ensures (omega arith) _ c.known-kind.ensures _ c.children-children.ensures _ (rw c.count.ensures at c.gives_way.ensures)
     c.if-gives_way.true _ (search rules) _ _ c.copy_argument-end.ensures
 
 pub put_indexed-requires : goal.put_indexed-requires
@@ -35,8 +35,8 @@ overflow_add-at t c = search (replacing_laws, rules)
 
 pub loop-j-init : goal.loop-j-init
 loop-j-init t c =
-    children_start _ _ _ _ _ _ c.get-r.ensures (omega arith) _ c.known-kind.ensures _ c.children-children.ensures _ c.gives_way.ensures
-    c.if-gives_way.false _ c.lowered_field-a.ensures _ c.put_indexed.ensures c.requires
+    children_start _ _ _ _ _ _ c.get-r.ensures (omega arith) _ c.known-kind.ensures _ c.children-children.ensures _ (rw c.count.ensures at c.gives_way.ensures)
+    c.if-gives_way.false _ (rw c.count-2.ensures at c.lowered_field-a.ensures) _ c.put_indexed.ensures c.requires
 
 pub skip-after-requires : goal.skip-after-requires
 skip-after-requires t c = search (replacing_laws, rules)
@@ -55,5 +55,5 @@ mark_root-end-requires t c = search (replacing_laws, rules)
 
 pub returns : goal.returns
 returns t c =
-    root_replaces _ _ _ _ _ _ c.get-r.ensures (omega arith) _ c.known-kind.ensures _ c.children-children.ensures _ c.gives_way.ensures
-    c.if-gives_way.false _ c.lowered_field-a.ensures _ c.put_indexed.ensures _ _ _ _ _ c.loop-j.invariant (omega arith) _ _ c.mark_root-end.ensures
+    root_replaces _ _ _ _ _ _ c.get-r.ensures (omega arith) _ c.known-kind.ensures _ c.children-children.ensures _ (rw c.count.ensures at c.gives_way.ensures)
+    c.if-gives_way.false _ (rw c.count-2.ensures at c.lowered_field-a.ensures) _ c.put_indexed.ensures _ _ _ _ _ c.loop-j.invariant (omega arith) _ _ c.mark_root-end.ensures
