@@ -79,7 +79,7 @@ impl Kind {
     }
 
     // How many children a record of this kind has. Every record that is passed over is asked this, so the number is shifted out and nothing is
-    // jumped over: by a match a run that opens code took 1.19 times as long.
+    // jumped over: by a match raising 300 codes takes 1.06 of its time.
     pub fn children(self) -> u16
         ensures { result ≡ child_count (kind_meant self) }
     {
