@@ -62,7 +62,6 @@ fn hold(table: &mut Table<'_>, w: Candidate) -> u16
 
 // The fault of r, of this kind, by rules 10 to 12, at this level under the binders, where its children have these types. As in check's walk the kinds of
 // which there are many are named, so that each has code of its own; there the children are read by the kind as well, so that no one list serves both.
-// The last arm hands on a copy of r, so that the record of the others stays in registers: without it typing 2,047 records took 1.2 times as long.
 fn own_number(
     table: &[u8],
     binders: &Binders<'_>,
@@ -83,7 +82,7 @@ fn own_number(
         }
         Kind::Quote => judging::judge(table, binders, level, Kind::Quote, r, children),
         Kind::Splice => judging::judge(table, binders, level, Kind::Splice, r, children),
-        _ => judging::judge(table, binders, level, kind, Record { ..r }, children),
+        _ => judging::judge(table, binders, level, kind, r, children),
     }
 }
 

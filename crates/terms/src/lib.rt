@@ -17,7 +17,7 @@ pub use measuring::{
 };
 
 // Copies the `n` records from `src` on to `dst`, as they are. The first goes first, so that the two parts may overlap where `dst` is before `src`.
-// Record by record: by one `copy_within` for all a step of a small term takes 1.2 times as long.
+// Record by record: by one `copy_within` for all a step of a small term takes 1.08 times as long.
 pub fn copy_flat(w: &mut [u8], src: usize, dst: usize, n: usize)
     requires { CanMove (records_in w.old) src dst n }
     ensures { Moved (records_in w.old) (records_in w.new) src dst n }
