@@ -12,7 +12,7 @@ ghost use Rattle.check_call.specs.Answers.{check_meant};
 use refusals::{Reason, Refusal};
 
 // What check says of a program: passed, with number and place 0, the root's type and the number of records; or refused, with document 01's
-// number and place and the other fields 0.
+// number and place and the other fields 0. C reads it, so that an answer is numbers, and each call has a struct of its own.
 #[repr(C)]
 #[derive(Clone, Copy)]
 pub struct CheckAnswer {

@@ -94,7 +94,7 @@ pub fn layout_refusal(program: &[u8], edition: Edition) -> Result<(), Refusal>
     parts_refusal(program, edition, false)
 }
 
-// The refusal of a program of the edition, or none where it is passed.
+// The refusal of a program of the edition, or none where it is passed. Two names for the two over one function: a flag at each caller would say less.
 #[tactic(auto, using(crate::proofs::Parts::size_refused_given, crate::proofs::Passed::with_given))]
 pub fn program_refusal(program: &[u8], edition: Edition) -> Result<(), Refusal>
     ensures { Reports result (refusal (edition_meant edition) program.now) }

@@ -108,7 +108,8 @@ fn note(table: &[u8], seen: &mut [u64], n: u16) -> bool
     insert(seen, 256 * (e.a as usize) + (e.b as usize))
 }
 
-// Refusal 6, each entry looked up in the set of the parts noted, which has N words and is empty at first.
+// Refusal 6, each entry looked up in the set of the parts noted, which has N words and is empty at first. A loop of its own: a closure that changes the set
+// would tell its caller nothing of each call.
 fn set_refusal<const N: usize>(table: &[u8]) -> Result<(), Refusal>
     requires { CanScanTable (entries_in table.now) N }
     ensures { Reports result (lowest (entry_rule (entries_in table.now)) bad_entry 1 (length (entries_in table.now))) }

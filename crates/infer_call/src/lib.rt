@@ -21,7 +21,7 @@ const TABLE: usize = 1542;
 const RECORDS: usize = kinds::MOST_RECORDS as usize;
 
 // What infer answers. Accepted: number and place are 0, the root's type and the written length. Refused: the number and place of documents 01 and 02,
-// and the other fields 0.
+// and the other fields 0. C reads it, so that an answer is numbers, and each call has a struct of its own.
 #[repr(C)]
 #[derive(Clone, Copy)]
 pub struct InferAnswer {

@@ -20,6 +20,7 @@ fn listing_by(input: &[u8], output: &mut [u8], work: &mut [u8], text: &mut [u8])
     }
     let fuel = records::get32(input, 0);
     let answer = engine::run(&input[4..], fuel, output, work);
+    // The answer is C's, which says so by a number.
     let number = answer.number;
     if number != 0 {
         return listing_text::refused_text(number, answer.place, text);

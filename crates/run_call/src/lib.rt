@@ -13,7 +13,7 @@ use refusals::Refusal;
 
 // What a run answers. Accepted: number and place are 0, ending is 1 for a value, 2 for spent fuel and 3 for a full table; the steps made, the
 // root's type, the written length, and how many variables gave way in all the steps, which can pass 32 bits. Refused: document 01's number and place,
-// and the other fields 0.
+// and the other fields 0. C reads it, so that an answer is numbers, and each call has a struct of its own.
 #[repr(C)]
 #[derive(Clone, Copy)]
 pub struct RunAnswer {
