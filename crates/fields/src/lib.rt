@@ -26,7 +26,7 @@ fn is_earlier(x: u16, n: u16) -> bool
     requires { 1 ≤ n }
     ensures { result ≡ met (between 1 x (n - 1)) }
 {
-    (1 <= x) & (x < n)
+    (1..n).contains(&x)
 }
 
 // Whether entry n, e, is of a kind that there is, and its parts are earlier entries. The kinds of entries are told apart here alone, by their numbers as they
@@ -108,8 +108,8 @@ fn note(table: &[u8], seen: &mut [u64], n: u16) -> bool
     insert(seen, 256 * (e.a as usize) + (e.b as usize))
 }
 
-// Refusal 6, each entry looked up in the set of the parts noted, which has N words and is empty at first. A loop of its own: a closure that changes the set
-// would tell its caller nothing of each call.
+// Refusal 6, each entry looked up in the set of the parts noted, which has N words and is empty at first. A loop of its own: of a closure that changes
+// the set the scan's contract would have to chain the states from call to call, and the proof here to take that apart again.
 fn set_refusal<const N: usize>(table: &[u8]) -> Result<(), Refusal>
     requires { CanScanTable (entries_in table.now) N }
     ensures { Reports result (lowest (entry_rule (entries_in table.now)) bad_entry 1 (length (entries_in table.now))) }

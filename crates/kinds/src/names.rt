@@ -1,6 +1,7 @@
-// The kinds by name, and the tables of what each has and does: code asks these. They match the kind's number with ranges, the form that is named for
-// them (docs/DECISIONS.md). The type rules (`judging`) and the step rules (`contraction`,
-// `matching`), which are each kind's own, are matched by the kind where they stand.
+// The kinds by name, and the tables of what each has and does: code asks these. Those of which kinds are plain, where they may stand, what they bind and
+// what is stepped and rewritten match the kind's number with ranges, the form that is named for them (docs/DECISIONS.md), and so does which are matches. The
+// others go by name, but for the number of children. The type rules (`judging`) and the step rules (`contraction`, `matching`), which are each kind's own,
+// are matched by the kind where they stand.
 ghost use Rattle.std.specs.Prelude.{◌≡◌, ◌≤◌};
 ghost use Rattle.rules.specs.Kinds.{child_count, kind_of, kind_number};
 ghost use Rattle.rules.specs.Binders.{binders_first, binders_second};

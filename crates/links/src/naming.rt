@@ -46,8 +46,8 @@ fn bump(counts: &mut [u16], m: u16)
     }
 }
 
-// Refusal 8: the lowest record that breaks the rule of links. The links of each record that keeps it are counted. A loop of its own: a closure that changes
-// the counters would tell its caller nothing of each call.
+// Refusal 8: the lowest record that breaks the rule of links. The links of each record that keeps it are counted. A loop of its own, as
+// `fields::set_refusal`: the counters change from record to record.
 pub fn links_refusal(records: &[u8]) -> Result<(), Refusal>
     requires { length (records_in records.now) ≤ most_records }
     ensures { Reports result (lowest (links_rule (records_in records.now)) bad_link 1 (length (records_in records.now))) }

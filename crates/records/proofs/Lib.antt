@@ -10,6 +10,5 @@ pub mod Views
 pub mod Fields
 pub mod Overwriting
 pub mod Lists
-pub mod Reading
 pub mod Writing
 pub mod Placing

@@ -1,6 +1,6 @@
 // Little-endian fields, type entries of 6 bytes and records of 16 bytes in a slice of bytes: read and written by value.
 // The contracts say what the bytes mean by the definitions of `rules`; a caller knows a slice as a list of entries or records. Each of the two has functions of
-// its own: a trait for both would need, beside a size, what each means in the rules and the laws of it, for five functions of one line.
+// its own: a trait for both would need, beside a size, what each means in the rules and the laws of it, for six functions of a line or seven.
 #![tactic(auto)]
 
 ghost use Rattle.std.specs.Prelude.{◌≡◌, ◌+◌, ◌*◌, ◌<◌, ◌≤◌, length, get_or, drop};
@@ -24,7 +24,7 @@ pub struct Record {
     pub value: u32,
 }
 
-// An entry of the type table.
+// An entry of the type table. Its kind is a number for the same reason.
 #[derive(Clone, Copy, PartialEq, Eq)]
 pub struct Entry {
     pub kind: u16,
@@ -96,7 +96,7 @@ pub fn put16(s: &mut [u8], at: usize, v: u16)
     s[at + 1] = bytes[1];
 }
 
-// Writes the field of four bytes at `at`.
+// Writes the field of four bytes at `at`, as two of two bytes, as the definition reads it.
 pub fn put32(s: &mut [u8], at: usize, v: u32)
     requires { at + 3 < length s.old }
     ensures { s.new ≡ overwritten s.old at (bytes32 v) }

@@ -85,6 +85,7 @@ pub fn print_infer(rt: &impl Print, program: &[u8]) -> io::Result<()> {
     let mut work = [0u8; engine::WORK];
     let answer = engine::infer(program, &mut output, &mut work);
     print_inferred(rt, &answer)?;
+    // Accepted, as the answer for C has it.
     if answer.number == 0 {
         print_program(rt, &output)?;
     }
@@ -115,6 +116,7 @@ pub fn print_run(rt: &impl Print, input: &[u8]) -> io::Result<()> {
     let mut work = [0u8; engine::WORK];
     let answer = engine::run(&input[4..], fuel, &mut output, &mut work);
     print_ran(rt, &answer)?;
+    // Accepted, as the answer for C has it.
     if answer.number == 0 {
         print_program(rt, &output)?;
     }
