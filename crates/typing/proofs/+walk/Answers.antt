@@ -2,7 +2,6 @@
 use Rattle.std.proofs.Common.{rules, arith}
 use Rattle.typing.proofs.WalkLaws.{one_left, room_first, stops_own, ends_leaf, goes_first, bound_first, stops_first, ends_first, room_second, goes_second, bound_second, stops_second, ends_second, goes_third, ends_third}
 use Rattle.typing.proofs.+walk.Goals as goal
-use Rattle.typing.proofs.+walk.Goals.{then-first-ge-REFUSED-via-then-first-ge-REFUSED, then-first-ge-REFUSED-via-else-first-ge-REFUSED+then-next-eq0}
 use Rattle.typing.proofs.+walk.Goals.{then-second-ge-REFUSED-via-then-second-ge-REFUSED, then-second-ge-REFUSED-via-else-second-ge-REFUSED+then-e-eq0}
 
 pub returns-in-Err : goal.returns-in-Err
@@ -24,10 +23,10 @@ pub truncate-requires : goal.truncate-requires
 truncate-requires t c = search (bound_first, rules)
 
 pub returns-then-first-ge-REFUSED : goal.returns-then-first-ge-REFUSED
-returns-then-first-ge-REFUSED t c = elim c.then-first-ge-REFUSED.branch [
-  | then-first-ge-REFUSED-via-then-first-ge-REFUSED w ↦ search (stops_first, rules)
-  | then-first-ge-REFUSED-via-else-first-ge-REFUSED+then-next-eq0 w ↦ search (ends_first, rules)
-]
+returns-then-first-ge-REFUSED t c = search (stops_first, rules)
+
+pub returns-then-next-eq0 : goal.returns-then-next-eq0
+returns-then-next-eq0 t c = search (ends_first, rules)
 
 pub push_second-requires : goal.push_second-requires
 push_second-requires t c = search (room_second, rules)
