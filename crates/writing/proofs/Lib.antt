@@ -1,4 +1,5 @@
 -- The laws that the proofs of the code rest on.
+pub mod Copying
 pub mod Slots
 pub mod Children
 pub mod Tree

@@ -90,12 +90,15 @@ pub fn write_tree(w: &[u8], i: usize, out: &mut [u8], state: Writer, next: u16) 
     done
 }
 
-// Copies `from` over the bytes of `out` from place `at` on.
+// Copies `from` over the bytes of `out` from place `at` on. By `copy_from_slice` the library for C would need a function more from outside, `memmove`.
+#[tactic(auto, using(crate::proofs::Copying::copying))]
 pub fn copy_bytes(from: &[u8], out: &mut [u8], at: usize)
     requires { at + length from.now ≤ length out.old }
     ensures { out.new ≡ overwritten out.old at from.now }
 {
-    out[at..at + from.len()].copy_from_slice(from);
+    for i in 0..from.len() {
+        out[at + i] = from[i];
+    }
 }
 
 // Writes the records of the tree at the front of `records` from byte `start` on, and tells where they end.
