@@ -33,10 +33,10 @@ pub ruleset lining = (word_room, numbers_room, line_wrote)
 
 -- A number of two bytes has 5 digits at most, one of four bytes 10.
 short₁₆ : (n : ℕ) → n < 65536 → length (decimal n) ≤ 5
-short₁₆ n h = decimal_short 5 n (omega arith) (omega arith) (omega arith)
+short₁₆ n h = decimal_short 4 n (omega arith)
 
 short₃₂ : (n : ℕ) → n < 4294967296 → length (decimal n) ≤ 10
-short₃₂ n h = decimal_short 10 n (omega arith) (omega arith) (omega arith)
+short₃₂ n h = decimal_short 9 n (omega arith)
 
 -- A line's numbers, one by one.
 no_numbers : length (numbers []) ≤ 1
