@@ -135,7 +135,7 @@ pub fn entries_refusal(table: &[u8]) -> Result<(), Refusal>
     ensures { Reports result (lowest (entry_rule (entries_in table.now)) bad_entry 1 (length (entries_in table.now))) }
 {
     match records::entry_count(table) {
-        5..=64 => set_refusal::<256>(table),
+        7..=64 => set_refusal::<256>(table),
         65..=256 => set_refusal::<1024>(table),
         _ => pairs_refusal(table),
     }
